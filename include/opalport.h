@@ -3,7 +3,8 @@
    You hold a handle where other libraries have a pointer:
 
        opal_handle drive = OPAL_NONE;
-       opal_config config = { .sectors = 1000, .shadow = 8, .msid = msid, .msid_length = sizeof msid };
+       opal_config config = OPAL_CONFIG_INIT;
+       config.sectors = 20480;
        if (opal_drive_new(&drive, &config) != OPAL_DONE) ...
        opal_answer answer = opal_drive_accept(&drive, fis, 20, NULL, 0);
        opal_free(&drive);
@@ -12,18 +13,19 @@
    opal_hba_new an AHCI controller with one port and the drive behind it, for a driver: registers, and your memory.
 
    Each call gives a code: OPAL_DONE, or why it was refused, and then nothing was done. opal_error_text tells it in
-   words. A call never ends the process, never waits and never prints. It takes memory from malloc.
+   words. A call never ends the process, never waits and never prints. It takes memory from malloc, and stack: where it makes
+   a drive, a port or a controller up to 144 KiB, else up to 32 KiB. A text that is given has a length, and no zero behind it.
 
    What a call sees for itself, and refuses with a code:
-   - a null pointer (a buffer of 0 bytes may be null);
+   - a null pointer (a buffer of 0 bytes may be null), and a pointer to a struct that is not aligned;
+   - a buffer that it writes and that has a byte in common with another buffer of the call, or with the handle;
    - a handle at which nothing was made, or that was freed: OPAL_NOT_OPEN. So it is for a handle of zeros, and for bytes
      that are no handle, unless their first eight are by chance the mark of one;
    - a handle of another kind, as a drive's for a port's: OPAL_OTHER_KIND;
    - a length that is not right, a tag above 31, and each number that the call does not take.
 
-   What no C function can see, and you owe:
+   What no C function can see, and you owe, also where a handle is const, which says that the object stays as it is:
    - a pointer that is not null leads to as many bytes as its length says, or to a handle;
-   - a buffer that a call writes has no byte in common with another buffer of the call, nor with a handle;
    - a handle begins as OPAL_NONE. It is written by these calls alone, and used where it is: a copy of it is no handle,
      and after a call by one of the two the other one must not be used;
    - one call at a time on a handle. Two handles may be used in two threads at once;
@@ -35,13 +37,31 @@
 #include <stddef.h>
 #include <stdint.h>
 
+#define OPAL_VERSION_MAJOR 0
+#define OPAL_VERSION_MINOR 2
+#define OPAL_VERSION_PATCH 0
+#define OPAL_VERSION_TEXT "0.2.0"
+/* The three in one number, a byte each: what opal_version gives. */
+#define OPAL_VERSION ((uint32_t)OPAL_VERSION_MAJOR << 16 | (uint32_t)OPAL_VERSION_MINOR << 8 | (uint32_t)OPAL_VERSION_PATCH)
+
+/* A compiler that can warns where what a call gives is not looked at. */
+#if defined(__cplusplus) && __cplusplus >= 201703L
+#define OPAL_MUST_USE [[nodiscard]]
+#elif defined(__STDC_VERSION__) && __STDC_VERSION__ >= 202311L
+#define OPAL_MUST_USE [[nodiscard]]
+#elif defined(__GNUC__)
+#define OPAL_MUST_USE __attribute__((warn_unused_result))
+#else
+#define OPAL_MUST_USE
+#endif
+
 #ifdef __cplusplus
 extern "C" {
 #endif
 
-/* Why a call was refused. The numbers do not change. */
-enum opal_code {
-    OPAL_DONE = 0,
+/* Why a call was refused. The numbers do not change; 11 is no longer given. */
+typedef enum opal_code {
+    OPAL_DONE = 0,          /* done */
     OPAL_OUT_OF_MEMORY = 1, /* an allocation was refused */
     OPAL_NOT_OPEN = 2,      /* the handle has nothing */
     OPAL_OTHER_KIND = 3,    /* what it has is of another kind */
@@ -52,11 +72,26 @@ enum opal_code {
     OPAL_NOT_HELD = 8,      /* no command is held under the tag */
     OPAL_ROOM = 9,          /* the buffer is too short; the number says how many bytes there are */
     OPAL_IN_USE = 10,       /* the handle has something already */
-    OPAL_LIMITS = 11,       /* a drive has no such size, PIN or name */
     OPAL_NO_RANGE = 12,     /* there is no such range */
     OPAL_OVERLAP = 13,      /* two ranges have a sector in common */
     OPAL_BEYOND = 14,       /* a range ends beyond the drive, or the global range has a place */
     OPAL_MALFORMED = 15,    /* bytes are not what they are to be */
+
+    /* What of a configuration no drive has: the first, in the order RANGE_TWICE, PROFILE, SECTORS, SHADOW and on. */
+    OPAL_SECTORS = 16,         /* a drive has 1 to 2^48 sectors */
+    OPAL_SHADOW = 17,          /* a shadow MBR has at most 262,144 sectors, and at most all of the drive */
+    OPAL_MSID = 18,            /* an MSID has 1 to 32 bytes */
+    OPAL_PROFILE = 19,         /* there is no such profile */
+    OPAL_SERIAL = 20,          /* a serial number has at most 20 characters of printable ASCII, and only with the profile field */
+    OPAL_MODEL = 21,           /* a model number has at most 40 characters of printable ASCII, and only with the profile field */
+    OPAL_PSID = 22,            /* a PSID has at most 32 bytes, and only with the profile field */
+    OPAL_DATASTORE = 23,       /* a DataStore has at most 16,777,216 bytes, and only with the profile field */
+    OPAL_RANGE_TWICE = 24,     /* two rows are of one range */
+    OPAL_VERSION_DIFFERS = 25, /* header and library are of versions that do not fit, or a configuration lacks its size */
+
+    /* What no caller of Rattle can do. */
+    OPAL_SHARED = 26,     /* a buffer that is written has a byte in common with another one, or with the handle */
+    OPAL_MISALIGNED = 27, /* a pointer to a struct is no multiple of 8 */
 
     /* Why a step of a port was refused: the first reason that applies, in the order of each call. */
     OPAL_PORT_SLOT_BUSY = 101,    /* the slot is not free */
@@ -70,6 +105,46 @@ enum opal_code {
     OPAL_PORT_NOT_YOURS = 109,    /* the answer is another client's */
     OPAL_PORT_SIZE = 110,         /* a transfer is empty, above 256 blocks, no whole blocks, or at no address of 48 bits */
     OPAL_PORT_HISTORY_FULL = 111  /* the port has done 1,048,576 steps */
+} opal_code;
+
+/* A code has four bytes, as the library gives it. */
+typedef char opal_raw_code_has_four_bytes[sizeof(opal_code) == 4 ? 1 : -1];
+
+/* The Status register of an answer (ACS-3), and its Error register. */
+typedef enum opal_status { OPAL_STATUS_DONE = 0x50, OPAL_STATUS_FAILED = 0x51 } opal_status;
+
+typedef enum opal_error {
+    OPAL_ERROR_NONE = 0x00,
+    OPAL_ERROR_ABORTED = 0x04,     /* aborted or denied */
+    OPAL_ERROR_ID_NOT_FOUND = 0x10 /* beyond the drive */
+} opal_error;
+
+/* A reset. */
+typedef enum opal_reset { OPAL_POWER_CYCLE = 0, OPAL_HARDWARE_RESET = 1 } opal_reset;
+
+/* A profile of a drive. */
+typedef enum opal_profile {
+    OPAL_BASE = 0, /* what the standards ask for */
+    OPAL_FIELD = 1 /* and what unmodified drivers ask for */
+} opal_profile;
+
+/* Security protocols (SPC-4, SECURITY PROTOCOL IN; TCG Core 2.01, 3.3), and the ComIDs of this drive. */
+enum opal_protocol {
+    OPAL_PROTOCOL_LIST = 0x00, /* what protocols there are: of the profile field */
+    OPAL_PROTOCOL_TCG = 0x01,  /* discovery, sessions and methods */
+    OPAL_PROTOCOL_TPER = 0x02  /* TPER_RESET, Block SID */
+};
+
+enum opal_com_id {
+    OPAL_COM_ID_DISCOVERY = 0x0001,  /* by OPAL_PROTOCOL_TCG: Level 0 discovery */
+    OPAL_COM_ID_TPER_RESET = 0x0004, /* by OPAL_PROTOCOL_TPER */
+    OPAL_COM_ID_BLOCK_SID = 0x0005,  /* by OPAL_PROTOCOL_TPER: of the profile field */
+    OPAL_COM_ID = 0x1000             /* by OPAL_PROTOCOL_TCG: the first ComID of sessions; the drive has 4 */
+};
+
+enum opal_size {
+    OPAL_SECTOR_BYTES = 512,
+    OPAL_FIS_BYTES = 20 /* of the FIS of a command */
 };
 
 /* What you hold in place of an object. Its fields are the library's. */
@@ -91,29 +166,48 @@ typedef struct opal_range {
     uint8_t write_locked;
 } opal_range;
 
-/* The drive that you ask for. Fields that are 0 or null stand for what a drive has that is given none.
-   With ranges its Locking SP is active, and Admin1 has the MSID as its PIN; with none it is as it leaves the factory. */
+/* The drive that you ask for. Begin with OPAL_CONFIG_INIT, or with { .size = sizeof(opal_config), .. }: a configuration
+   without its size is refused. With ranges the drive's Locking SP is active, and Admin1 has the MSID as its PIN; with none it
+   is as it leaves the factory. */
 typedef struct opal_config {
-    uint64_t sectors;        /* 1 to 2^48, of 512 bytes */
-    uint64_t shadow;         /* how many of them the shadow MBR can have: at most 262,144 */
-    const uint8_t *msid;     /* the PIN that SID has at first: 1 to 32 bytes */
+    size_t size;             /* sizeof(opal_config) */
+    uint64_t sectors;        /* 1 to 2^48, of 512 bytes; 0 is refused */
+    uint64_t shadow;         /* how many of them the shadow MBR can have: at most 262,144, and at most all; 0 is none */
+    const void *msid;        /* the PIN that SID has at first: 1 to 32 bytes; null is refused */
     size_t msid_length;
-    const opal_range *ranges;
+    const opal_range *ranges; /* each of another range; null is none */
     size_t range_count;
-    uint32_t profile;        /* 0 is base, 1 is field: what unmodified drivers ask for. What follows is field's alone */
-    const char *serial;      /* at most 20 characters of printable ASCII */
-    const char *model;       /* at most 40 */
-    const uint8_t *psid;     /* the PIN on the label: at most 32 bytes */
+    uint32_t profile;        /* enum opal_profile. What follows is field's alone: with base it is 0 and null */
+    const char *serial;      /* at most 20 characters of printable ASCII; none stand for "0000000001" */
+    size_t serial_length;
+    const char *model;       /* at most 40; none stand for "Opalport" */
+    size_t model_length;
+    const void *psid;        /* the PIN on the label: at most 32 bytes; none stand for "the PSID of the label" */
     size_t psid_length;
-    bool has_datastore;      /* whether the next field says the size of DataStore */
-    uint64_t datastore;      /* at most 16,777,216 bytes */
+    uint8_t has_datastore;   /* whether (0 is not) the next field says the size of DataStore; else it has 4,096 bytes */
+    uint64_t datastore;      /* at most 16,777,216 bytes; 0 is a DataStore of no byte */
 } opal_config;
+
+/* A drive of the profile base with 1,000 sectors, of which 8 can be shadowed, and the MSID "OPALMSID". */
+#define OPAL_CONFIG_INIT \
+    { sizeof(opal_config), 1000, 8, "OPALMSID", 8, NULL, 0, OPAL_BASE, NULL, 0, NULL, 0, NULL, 0, 0, 0 }
+
+/* What a handle has, where code is OPAL_DONE. */
+typedef struct opal_about {
+    opal_code code;
+    uint8_t kind;     /* enum opal_object */
+    uint8_t profile;  /* enum opal_profile */
+    uint64_t sectors; /* of the drive, or of the drive behind it */
+    uint64_t shadow;  /* those of them that the shadow MBR can have */
+} opal_about;
+
+typedef enum opal_object { OPAL_DRIVE = 1, OPAL_PORT = 2, OPAL_HBA = 3 } opal_object;
 
 /* What a drive answers to a command, or to a completion. */
 typedef struct opal_answer {
-    uint32_t code;
-    uint8_t status; /* 50h, or 51h with an error */
-    uint8_t error;  /* 04h aborted or denied, 10h beyond the drive */
+    opal_code code;
+    uint8_t status; /* enum opal_status */
+    uint8_t error;  /* enum opal_error */
     bool held;      /* the command is held until it is completed */
     bool denied;    /* the command, or what it sent, was denied: opal_drive_denial tells by what */
     size_t length;  /* how many bytes of data there are: opal_drive_data gives them */
@@ -121,17 +215,17 @@ typedef struct opal_answer {
 
 /* A number, where code is OPAL_DONE. */
 typedef struct opal_count {
-    uint32_t code;
+    opal_code code;
     size_t number;
 } opal_count;
 
 /* How a queue has failed, if it has: what log page 10h tells. */
 typedef struct opal_failed {
-    uint32_t code;
+    opal_code code;
     bool failed;
     bool queued; /* else the tag is 0 */
     uint8_t tag;
-    uint8_t error;
+    uint8_t error; /* enum opal_error */
     uint8_t device;
     uint16_t count;
     uint64_t lba;
@@ -156,7 +250,7 @@ enum opal_went {
 };
 
 typedef struct opal_worked {
-    uint32_t code;
+    opal_code code;
     uint8_t work; /* enum opal_work */
     uint8_t tag;  /* of the command; 0 of the signature */
     uint8_t went; /* enum opal_went */
@@ -165,7 +259,7 @@ typedef struct opal_worked {
 
 /* What a frame carries, and for whom; the payload stands in the bytes that were opened. */
 typedef struct opal_carried {
-    uint32_t code;
+    opal_code code;
     uint32_t tsn; /* the session's numbers, at the TPer and at the host: both 0 for the session manager */
     uint32_t hsn;
     uint16_t com_id;
@@ -204,10 +298,10 @@ enum opal_ending {
 
 /* What a client took. */
 typedef struct opal_taken {
-    uint32_t code;
+    opal_code code;
     uint8_t ending; /* enum opal_ending */
-    uint8_t status; /* 51h of a command that failed; else 0 */
-    uint8_t error;  /* 04h or 10h of a command that failed; else 0 */
+    uint8_t status; /* enum opal_status, of a command that failed; else 0 */
+    uint8_t error;  /* enum opal_error, of a command that failed; else 0 */
     size_t number;  /* the number of the step */
     size_t length;  /* how many bytes of data there are */
 } opal_taken;
@@ -222,7 +316,7 @@ typedef struct opal_ready {
 
 /* What a port shows: registers (AHCI 1.3.1, 3.3), and how many lines its audit log has. */
 typedef struct opal_shown {
-    uint32_t code;
+    opal_code code;
     uint32_t interrupts; /* PxIS */
     uint32_t task;       /* PxTFD: status, and error from bit 8 on */
     uint32_t active;     /* PxSACT: the queued tags that are issued or accepted */
@@ -249,23 +343,27 @@ typedef struct opal_raw_size {
     uint32_t profile;
 } opal_raw_size;
 
-uint32_t opal_raw_drive_new(opal_handle *handle, opal_raw_size size, const uint8_t *msid, size_t msid_length,
-                            const uint8_t *serial, size_t serial_length, const uint8_t *model, size_t model_length,
-                            const uint8_t *psid, size_t psid_length, const opal_range *ranges, size_t range_count);
-uint32_t opal_raw_free(opal_handle *handle);
+uint32_t opal_raw_version(void);
+opal_count opal_raw_version_text(uint8_t *into, size_t length);
+opal_about opal_raw_about(opal_handle *handle);
+
+opal_code opal_raw_drive_new(opal_handle *handle, opal_raw_size size, const uint8_t *msid, size_t msid_length,
+                             const uint8_t *serial, size_t serial_length, const uint8_t *model, size_t model_length,
+                             const uint8_t *psid, size_t psid_length, const opal_range *ranges, size_t range_count);
+opal_code opal_raw_free(opal_handle *handle);
 opal_answer opal_raw_drive_accept(opal_handle *handle, const uint8_t *fis, size_t fis_length, const uint8_t *payload,
                                   size_t payload_length);
 opal_answer opal_raw_drive_complete(opal_handle *handle, uint8_t tag, const uint8_t *payload, size_t payload_length);
-uint32_t opal_raw_drive_reset(opal_handle *handle, uint32_t kind);
+opal_code opal_raw_drive_reset(opal_handle *handle, uint32_t kind);
 opal_count opal_raw_drive_payload(opal_handle *handle, const uint8_t *fis, size_t fis_length);
 opal_count opal_raw_drive_expects(opal_handle *handle, uint8_t tag);
 opal_failed opal_raw_drive_failure(opal_handle *handle);
 opal_count opal_raw_drive_data(opal_handle *handle, uint8_t *into, size_t length);
 opal_count opal_raw_drive_denial(opal_handle *handle, uint32_t client, uint8_t *into, size_t length);
 
-uint32_t opal_raw_port_new(opal_handle *handle, opal_raw_size size, const uint8_t *msid, size_t msid_length,
-                           const uint8_t *serial, size_t serial_length, const uint8_t *model, size_t model_length,
-                           const uint8_t *psid, size_t psid_length, const opal_range *ranges, size_t range_count);
+opal_code opal_raw_port_new(opal_handle *handle, opal_raw_size size, const uint8_t *msid, size_t msid_length,
+                            const uint8_t *serial, size_t serial_length, const uint8_t *model, size_t model_length,
+                            const uint8_t *psid, size_t psid_length, const opal_range *ranges, size_t range_count);
 opal_count opal_raw_port_put(opal_handle *handle, uint32_t client, uint8_t tag, opal_request request,
                              const uint8_t *payload, size_t payload_length);
 opal_count opal_raw_port_issue(opal_handle *handle, uint8_t tag);
@@ -280,12 +378,13 @@ opal_count opal_raw_port_data(opal_handle *handle, uint8_t *into, size_t length)
 opal_shown opal_raw_port_shown(opal_handle *handle);
 opal_count opal_raw_port_denial(opal_handle *handle, size_t place, uint8_t *into, size_t length);
 
-uint32_t opal_raw_hba_new(opal_handle *handle, opal_raw_size size, const uint8_t *msid, size_t msid_length,
-                          const uint8_t *serial, size_t serial_length, const uint8_t *model, size_t model_length,
-                          const uint8_t *psid, size_t psid_length, const opal_range *ranges, size_t range_count);
+opal_code opal_raw_hba_new(opal_handle *handle, opal_raw_size size, const uint8_t *msid, size_t msid_length,
+                           const uint8_t *serial, size_t serial_length, const uint8_t *model, size_t model_length,
+                           const uint8_t *psid, size_t psid_length, const opal_range *ranges, size_t range_count);
 opal_count opal_raw_hba_read(opal_handle *handle, uint32_t offset);
-uint32_t opal_raw_hba_write(opal_handle *handle, uint32_t offset, uint32_t value);
+opal_code opal_raw_hba_write(opal_handle *handle, uint32_t offset, uint32_t value);
 opal_count opal_raw_hba_interrupt(opal_handle *handle);
+opal_code opal_raw_hba_power_cycle(opal_handle *handle);
 opal_worked opal_raw_hba_turn(opal_handle *handle, size_t choice, uint32_t base, uint8_t *memory, size_t length);
 opal_count opal_raw_hba_denial(opal_handle *handle, uint8_t *into, size_t length);
 
@@ -306,401 +405,460 @@ static inline uint8_t *opal_raw_empty(void)
     return (uint8_t *)&nothing;
 }
 
-/* Whether a buffer is one: it has no bytes, or its pointer is not null. */
-static inline bool opal_raw_is(const void *bytes, size_t length)
-{
-    return length == 0 || bytes != NULL;
-}
-
 static inline uint8_t *opal_raw_at(const void *bytes)
 {
     return bytes != NULL ? (uint8_t *)bytes : opal_raw_empty();
 }
 
-static inline size_t opal_raw_length(const char *text)
+/* What is wrong with a handle, as far as its pointer tells. */
+static inline opal_code opal_raw_of(const opal_handle *handle)
 {
-    size_t length = 0;
-    while (text != NULL && text[length] != 0)
-        length++;
-    return length;
-}
-
-/* Makes the drive that is asked for, at a handle with nothing. Refused: OPAL_NULL, OPAL_IN_USE, OPAL_LIMITS,
-   OPAL_NO_RANGE, OPAL_OVERLAP, OPAL_BEYOND, OPAL_OUT_OF_MEMORY. */
-static inline uint32_t opal_drive_new(opal_handle *drive, const opal_config *config)
-{
-    if (drive == NULL || config == NULL || !opal_raw_is(config->msid, config->msid_length)
-        || !opal_raw_is(config->psid, config->psid_length) || !opal_raw_is(config->ranges, config->range_count))
+    if (handle == NULL)
         return OPAL_NULL;
-    opal_raw_size size = { config->sectors, config->shadow, config->has_datastore ? config->datastore : UINT64_MAX,
-                           config->profile };
-    return opal_raw_drive_new(drive, size, opal_raw_at(config->msid), config->msid_length, opal_raw_at(config->serial),
-                              opal_raw_length(config->serial), opal_raw_at(config->model),
-                              opal_raw_length(config->model), opal_raw_at(config->psid), config->psid_length,
-                              (const opal_range *)(const void *)opal_raw_at(config->ranges), config->range_count);
+    return (uintptr_t)handle % sizeof(uint64_t) != 0 ? OPAL_MISALIGNED : OPAL_DONE;
 }
 
-/* Frees what a handle has, of any kind. Refused: OPAL_NULL, OPAL_NOT_OPEN. */
-static inline uint32_t opal_free(opal_handle *handle)
+/* What is wrong with a buffer: it has bytes and its pointer is null, or more bytes than there can be. */
+static inline opal_code opal_raw_buffer(const void *bytes, size_t length)
 {
-    return handle == NULL ? (uint32_t)OPAL_NULL : opal_raw_free(handle);
+    if (length != 0 && bytes == NULL)
+        return OPAL_NULL;
+    return length > SIZE_MAX / 2 ? OPAL_LENGTH : OPAL_DONE;
 }
+
+/* Whether two buffers have a byte in common. */
+static inline bool opal_raw_meet(const void *one, size_t one_length, const void *other, size_t other_length)
+{
+    uintptr_t at = (uintptr_t)one, from = (uintptr_t)other;
+    return one_length != 0 && other_length != 0 && (at < from ? from - at < one_length : at - from < other_length);
+}
+
+/* What is wrong with a handle, or with a buffer that is read. */
+static inline opal_code opal_raw_from(const opal_handle *handle, const void *bytes, size_t length)
+{
+    opal_code fault = opal_raw_of(handle);
+    return fault != OPAL_DONE ? fault : opal_raw_buffer(bytes, length);
+}
+
+/* What is wrong with a handle, or with a buffer that is written. */
+static inline opal_code opal_raw_into(const opal_handle *handle, const void *into, size_t length)
+{
+    opal_code fault = opal_raw_from(handle, into, length);
+    return fault == OPAL_DONE && opal_raw_meet(handle, sizeof *handle, into, length) ? OPAL_SHARED : fault;
+}
+
+/* What is wrong with a buffer that is read, or with one that is written. */
+static inline opal_code opal_raw_between(const void *bytes, size_t bytes_length, const void *into, size_t length)
+{
+    opal_code fault = opal_raw_buffer(bytes, bytes_length);
+    if (fault == OPAL_DONE)
+        fault = opal_raw_buffer(into, length);
+    return fault == OPAL_DONE && opal_raw_meet(bytes, bytes_length, into, length) ? OPAL_SHARED : fault;
+}
+
+/* What is wrong with the pointers and lengths of a configuration, or with its version. */
+static inline opal_code opal_raw_asked(const opal_config *config)
+{
+    if (config == NULL)
+        return OPAL_NULL;
+    if ((uintptr_t)config % sizeof(uint64_t) != 0)
+        return OPAL_MISALIGNED;
+    if (config->size != sizeof *config || opal_raw_version() >> 8 != OPAL_VERSION >> 8)
+        return OPAL_VERSION_DIFFERS;
+    if (config->range_count > SIZE_MAX / 2 / sizeof(opal_range))
+        return OPAL_LENGTH;
+    if ((uintptr_t)config->ranges % sizeof(uint64_t) != 0)
+        return OPAL_MISALIGNED;
+    opal_code fault = opal_raw_buffer(config->msid, config->msid_length);
+    if (fault == OPAL_DONE)
+        fault = opal_raw_buffer(config->serial, config->serial_length);
+    if (fault == OPAL_DONE)
+        fault = opal_raw_buffer(config->model, config->model_length);
+    if (fault == OPAL_DONE)
+        fault = opal_raw_buffer(config->psid, config->psid_length);
+    return fault != OPAL_DONE ? fault : opal_raw_buffer(config->ranges, config->range_count);
+}
+
+/* How the archive makes a drive, a port or a controller. */
+typedef opal_code opal_raw_make(opal_handle *handle, opal_raw_size size, const uint8_t *msid, size_t msid_length,
+                                const uint8_t *serial, size_t serial_length, const uint8_t *model, size_t model_length,
+                                const uint8_t *psid, size_t psid_length, const opal_range *ranges, size_t range_count);
+
+/* Makes it as it is asked for, where nothing is wrong with what was given. */
+static inline opal_code opal_raw_new(opal_raw_make *make, opal_handle *handle, const opal_config *config)
+{
+    opal_code fault = opal_raw_of(handle);
+    if (fault == OPAL_DONE)
+        fault = opal_raw_asked(config);
+    if (fault != OPAL_DONE)
+        return fault;
+    opal_raw_size size = { config->sectors, config->shadow, config->has_datastore != 0 ? config->datastore : UINT64_MAX,
+                           config->profile };
+    return make(handle, size, opal_raw_at(config->msid), config->msid_length, opal_raw_at(config->serial),
+                config->serial_length, opal_raw_at(config->model), config->model_length, opal_raw_at(config->psid),
+                config->psid_length, (const opal_range *)(const void *)opal_raw_at(config->ranges), config->range_count);
+}
+
+/* The version of the library, a byte each of major, minor and patch: OPAL_VERSION of the header that it was made with. A
+   header fits a library of the same major and minor; opal_drive_new and its like refuse another with OPAL_VERSION_DIFFERS. */
+static inline uint32_t opal_version(void)
+{
+    return opal_raw_version();
+}
+
+/* Copies the version of the library as a text, as `0.2.0`, or `0.2.0 unproved` of one that was built without proofs. It has
+   no zero behind it. Refused: OPAL_NULL, OPAL_LENGTH, OPAL_ROOM. */
+OPAL_MUST_USE static inline opal_count opal_version_text(char *into, size_t length)
+{
+    opal_count refused = { opal_raw_buffer(into, length), 0 };
+    return refused.code != OPAL_DONE ? refused : opal_raw_version_text(opal_raw_at(into), length);
+}
+
+/* Makes the drive that is asked for, at a handle with nothing. Refused: OPAL_NULL, OPAL_MISALIGNED, OPAL_LENGTH,
+   OPAL_VERSION_DIFFERS, OPAL_IN_USE; of a setting that no drive has OPAL_RANGE_TWICE, OPAL_PROFILE, OPAL_SECTORS, OPAL_SHADOW,
+   OPAL_MSID, OPAL_SERIAL, OPAL_MODEL, OPAL_PSID, OPAL_DATASTORE; of the first row that does not fit OPAL_NO_RANGE, OPAL_OVERLAP,
+   OPAL_BEYOND; OPAL_OUT_OF_MEMORY. */
+OPAL_MUST_USE static inline opal_code opal_drive_new(opal_handle *drive, const opal_config *config)
+{
+    return opal_raw_new(opal_raw_drive_new, drive, config);
+}
+
+/* Frees what a handle has, of any kind. Refused: OPAL_NULL, OPAL_MISALIGNED, OPAL_NOT_OPEN. */
+static inline opal_code opal_free(opal_handle *handle)
+{
+    opal_code fault = opal_raw_of(handle);
+    return fault != OPAL_DONE ? fault : opal_raw_free(handle);
+}
+
+/* What a handle has: its kind, and of the drive the profile and the sectors. Refused: OPAL_NULL, OPAL_MISALIGNED,
+   OPAL_NOT_OPEN. */
+OPAL_MUST_USE static inline opal_about opal_about_handle(const opal_handle *handle)
+{
+    opal_about refused = { opal_raw_of(handle), 0, 0, 0, 0 };
+    return refused.code != OPAL_DONE ? refused : opal_raw_about((opal_handle *)handle);
+}
+
+/* What follows are the calls of a drive. All can be refused with OPAL_NULL, OPAL_MISALIGNED, OPAL_NOT_OPEN and OPAL_OTHER_KIND;
+   those with a buffer with OPAL_LENGTH, and those that write one with OPAL_SHARED. */
 
 /* Gives the drive the FIS of a command (Serial ATA, "Register Host to Device FIS": 20 bytes), with the payload that the
    command brings: opal_drive_payload tells how many bytes. A queued read or write is held (`held`) until it is completed;
    any other command is executed whole. A command that fails, or is denied, was done: the code is OPAL_DONE, and status and
-   error say it. Refused: OPAL_NULL, OPAL_NOT_OPEN, OPAL_OTHER_KIND, OPAL_LENGTH, OPAL_OUT_OF_MEMORY. The drive is then as
-   before; the data of the last answer may be gone. */
-static inline opal_answer opal_drive_accept(opal_handle *drive, const uint8_t *fis, size_t fis_length,
-                                            const uint8_t *payload, size_t payload_length)
+   error say it. Refused: OPAL_LENGTH, OPAL_OUT_OF_MEMORY. The drive is then as before; the data of the last answer may be
+   gone. */
+OPAL_MUST_USE static inline opal_answer opal_drive_accept(opal_handle *drive, const uint8_t *fis, size_t fis_length,
+                                                          const void *payload, size_t payload_length)
 {
-    if (drive == NULL || !opal_raw_is(fis, fis_length) || !opal_raw_is(payload, payload_length)) {
-        opal_answer refused = { OPAL_NULL, 0, 0, false, false, 0 };
+    opal_answer refused = { opal_raw_from(drive, fis, fis_length), 0, 0, false, false, 0 };
+    if (refused.code == OPAL_DONE)
+        refused.code = opal_raw_buffer(payload, payload_length);
+    if (refused.code != OPAL_DONE)
         return refused;
-    }
     return opal_raw_drive_accept(drive, opal_raw_at(fis), fis_length, opal_raw_at(payload), payload_length);
 }
 
 /* Moves the data of the command that is held under a tag, and lets it go. A write brings its payload:
-   opal_drive_expects tells how many bytes. Refused: OPAL_NULL, OPAL_NOT_OPEN, OPAL_OTHER_KIND, OPAL_TAG, OPAL_NOT_HELD,
-   OPAL_LENGTH, OPAL_OUT_OF_MEMORY. */
-static inline opal_answer opal_drive_complete(opal_handle *drive, uint8_t tag, const uint8_t *payload,
-                                              size_t payload_length)
+   opal_drive_expects tells how many bytes. Refused: OPAL_TAG, OPAL_NOT_HELD, OPAL_LENGTH, OPAL_OUT_OF_MEMORY. */
+OPAL_MUST_USE static inline opal_answer opal_drive_complete(opal_handle *drive, uint8_t tag, const void *payload,
+                                                            size_t payload_length)
 {
-    if (drive == NULL || !opal_raw_is(payload, payload_length)) {
-        opal_answer refused = { OPAL_NULL, 0, 0, false, false, 0 };
-        return refused;
-    }
-    return opal_raw_drive_complete(drive, tag, opal_raw_at(payload), payload_length);
+    opal_answer refused = { opal_raw_from(drive, payload, payload_length), 0, 0, false, false, 0 };
+    return refused.code != OPAL_DONE ? refused : opal_raw_drive_complete(drive, tag, opal_raw_at(payload), payload_length);
 }
 
-/* Resets the drive: 0 is a power cycle, 1 a hardware reset. Refused: OPAL_NULL, OPAL_NOT_OPEN, OPAL_OTHER_KIND,
-   OPAL_NUMBER. */
-static inline uint32_t opal_drive_reset(opal_handle *drive, uint32_t kind)
+/* Resets the drive (enum opal_reset). Refused: OPAL_NUMBER. */
+static inline opal_code opal_drive_reset(opal_handle *drive, uint32_t kind)
 {
-    return drive == NULL ? (uint32_t)OPAL_NULL : opal_raw_drive_reset(drive, kind);
+    opal_code fault = opal_raw_of(drive);
+    return fault != OPAL_DONE ? fault : opal_raw_drive_reset(drive, kind);
 }
 
-/* How many bytes of payload a command brings. Refused: OPAL_NULL, OPAL_NOT_OPEN, OPAL_OTHER_KIND, OPAL_LENGTH. */
-static inline opal_count opal_drive_payload(opal_handle *drive, const uint8_t *fis, size_t fis_length)
+/* How many bytes of payload a command brings. Refused: OPAL_LENGTH. */
+OPAL_MUST_USE static inline opal_count opal_drive_payload(const opal_handle *drive, const uint8_t *fis, size_t fis_length)
 {
-    if (drive == NULL || !opal_raw_is(fis, fis_length)) {
-        opal_count refused = { OPAL_NULL, 0 };
-        return refused;
-    }
-    return opal_raw_drive_payload(drive, opal_raw_at(fis), fis_length);
+    opal_count refused = { opal_raw_from(drive, fis, fis_length), 0 };
+    return refused.code != OPAL_DONE ? refused
+                                     : opal_raw_drive_payload((opal_handle *)drive, opal_raw_at(fis), fis_length);
 }
 
-/* How many bytes of payload a completion under a tag brings. Refused: OPAL_NULL, OPAL_NOT_OPEN, OPAL_OTHER_KIND,
-   OPAL_TAG, OPAL_NOT_HELD. */
-static inline opal_count opal_drive_expects(opal_handle *drive, uint8_t tag)
+/* How many bytes of payload a completion under a tag brings. Refused: OPAL_TAG, OPAL_NOT_HELD. */
+OPAL_MUST_USE static inline opal_count opal_drive_expects(const opal_handle *drive, uint8_t tag)
 {
-    if (drive == NULL) {
-        opal_count refused = { OPAL_NULL, 0 };
-        return refused;
-    }
-    return opal_raw_drive_expects(drive, tag);
+    opal_count refused = { opal_raw_of(drive), 0 };
+    return refused.code != OPAL_DONE ? refused : opal_raw_drive_expects((opal_handle *)drive, tag);
 }
 
-/* How the queue has failed, if it has. Refused: OPAL_NULL, OPAL_NOT_OPEN, OPAL_OTHER_KIND. */
-static inline opal_failed opal_drive_failure(opal_handle *drive)
+/* How the queue has failed, if it has. */
+OPAL_MUST_USE static inline opal_failed opal_drive_failure(const opal_handle *drive)
 {
-    if (drive == NULL) {
-        opal_failed refused = { OPAL_NULL, false, false, 0, 0, 0, 0, 0 };
-        return refused;
-    }
-    return opal_raw_drive_failure(drive);
+    opal_failed refused = { opal_raw_of(drive), false, false, 0, 0, 0, 0, 0 };
+    return refused.code != OPAL_DONE ? refused : opal_raw_drive_failure((opal_handle *)drive);
 }
 
-/* Copies the data of the last answer, and tells how many bytes they are. Refused: OPAL_NULL, OPAL_NOT_OPEN,
-   OPAL_OTHER_KIND, OPAL_ROOM. */
-static inline opal_count opal_drive_data(opal_handle *drive, uint8_t *into, size_t length)
+/* Copies the data of the last answer, and tells how many bytes they are. Refused: OPAL_ROOM. */
+OPAL_MUST_USE static inline opal_count opal_drive_data(const opal_handle *drive, void *into, size_t length)
 {
-    if (drive == NULL || !opal_raw_is(into, length)) {
-        opal_count refused = { OPAL_NULL, 0 };
-        return refused;
-    }
-    return opal_raw_drive_data(drive, opal_raw_at(into), length);
+    opal_count refused = { opal_raw_into(drive, into, length), 0 };
+    return refused.code != OPAL_DONE ? refused : opal_raw_drive_data((opal_handle *)drive, opal_raw_at(into), length);
 }
 
 /* Copies the line of the audit log that tells what denied the last command, as `3 7 deny read 95+6 range 1 ReadLocked`:
    the number of the act, the client, which is yours to say, and the reason. It has no end of line and no zero behind it,
-   and is empty where nothing was denied. Refused: OPAL_NULL, OPAL_NOT_OPEN, OPAL_OTHER_KIND, OPAL_ROOM,
-   OPAL_OUT_OF_MEMORY. */
-static inline opal_count opal_drive_denial(opal_handle *drive, uint32_t client, char *into, size_t length)
+   and is empty where nothing was denied. Refused: OPAL_ROOM, OPAL_OUT_OF_MEMORY. */
+OPAL_MUST_USE static inline opal_count opal_drive_denial(const opal_handle *drive, uint32_t client, char *into,
+                                                         size_t length)
 {
-    if (drive == NULL || !opal_raw_is(into, length)) {
-        opal_count refused = { OPAL_NULL, 0 };
-        return refused;
-    }
-    return opal_raw_drive_denial(drive, client, opal_raw_at(into), length);
+    opal_count refused = { opal_raw_into(drive, into, length), 0 };
+    return refused.code != OPAL_DONE ? refused
+                                     : opal_raw_drive_denial((opal_handle *)drive, client, opal_raw_at(into), length);
 }
 
 /* Makes a port over the drive that is asked for, at a handle with nothing: one AHCI port with 32 command slots, on which
    nothing was done. Refused as opal_drive_new. */
-static inline uint32_t opal_port_new(opal_handle *port, const opal_config *config)
+OPAL_MUST_USE static inline opal_code opal_port_new(opal_handle *port, const opal_config *config)
 {
-    if (port == NULL || config == NULL || !opal_raw_is(config->msid, config->msid_length)
-        || !opal_raw_is(config->psid, config->psid_length) || !opal_raw_is(config->ranges, config->range_count))
-        return OPAL_NULL;
-    opal_raw_size size = { config->sectors, config->shadow, config->has_datastore ? config->datastore : UINT64_MAX,
-                           config->profile };
-    return opal_raw_port_new(port, size, opal_raw_at(config->msid), config->msid_length, opal_raw_at(config->serial),
-                             opal_raw_length(config->serial), opal_raw_at(config->model), opal_raw_length(config->model),
-                             opal_raw_at(config->psid), config->psid_length,
-                             (const opal_range *)(const void *)opal_raw_at(config->ranges), config->range_count);
+    return opal_raw_new(opal_raw_port_new, port, config);
 }
 
 /* What follows are the steps of a port. Each that is done has the next number, from 1, and tells it; one that is refused
-   has none, and the port is as before. All can be refused with OPAL_NULL, OPAL_NOT_OPEN, OPAL_OTHER_KIND,
+   has none, and the port is as before. All can be refused with OPAL_NULL, OPAL_MISALIGNED, OPAL_NOT_OPEN, OPAL_OTHER_KIND,
    OPAL_PORT_HISTORY_FULL and OPAL_OUT_OF_MEMORY. The engine's are Issue, Accept, Complete and Recover. */
 
 /* A client puts a request in the slot of a tag, with a copy of the payload. Clients have numbers of your choice. Refused:
    OPAL_TAG, OPAL_NUMBER, OPAL_LENGTH (a command that brings no bytes has a payload), OPAL_PORT_SIZE, OPAL_PORT_SLOT_BUSY. */
-static inline opal_count opal_port_put(opal_handle *port, uint32_t client, uint8_t tag, const opal_request *request,
-                                       const void *payload, size_t payload_length)
+OPAL_MUST_USE static inline opal_count opal_port_put(opal_handle *port, uint32_t client, uint8_t tag,
+                                                     const opal_request *request, const void *payload,
+                                                     size_t payload_length)
 {
-    if (port == NULL || request == NULL || !opal_raw_is(payload, payload_length)) {
-        opal_count refused = { OPAL_NULL, 0 };
+    opal_count refused = { opal_raw_from(port, payload, payload_length), 0 };
+    if (refused.code == OPAL_DONE && request == NULL)
+        refused.code = OPAL_NULL;
+    if (refused.code == OPAL_DONE && (uintptr_t)request % sizeof(uint64_t) != 0)
+        refused.code = OPAL_MISALIGNED;
+    if (refused.code != OPAL_DONE)
         return refused;
-    }
     return opal_raw_port_put(port, client, tag, *request, opal_raw_at(payload), payload_length);
 }
 
 /* The port issues the prepared command of a tag: its bit of PxCI is set, and of PxSACT where it is queued. Refused:
    OPAL_TAG, OPAL_PORT_FAILED, OPAL_PORT_NOT_PREPARED, OPAL_PORT_QUEUE. */
-static inline opal_count opal_port_issue(opal_handle *port, uint8_t tag)
+OPAL_MUST_USE static inline opal_count opal_port_issue(opal_handle *port, uint8_t tag)
 {
-    opal_count refused = { OPAL_NULL, 0 };
-    return port == NULL ? refused : opal_raw_port_issue(port, tag);
+    opal_count refused = { opal_raw_of(port), 0 };
+    return refused.code != OPAL_DONE ? refused : opal_raw_port_issue(port, tag);
 }
 
 /* The drive takes the issued command of a tag: a queued read or write is held, any other command is executed whole. A
    command that the drive fails or denies was done. A queued one that fails stops the port. Refused: OPAL_TAG,
    OPAL_PORT_FAILED, OPAL_PORT_NOT_ISSUED. */
-static inline opal_count opal_port_accept(opal_handle *port, uint8_t tag)
+OPAL_MUST_USE static inline opal_count opal_port_accept(opal_handle *port, uint8_t tag)
 {
-    opal_count refused = { OPAL_NULL, 0 };
-    return port == NULL ? refused : opal_raw_port_accept(port, tag);
+    opal_count refused = { opal_raw_of(port), 0 };
+    return refused.code != OPAL_DONE ? refused : opal_raw_port_accept(port, tag);
 }
 
 /* The drive moves the data of the command that it holds under a tag, and ends it. Refused: OPAL_TAG, OPAL_PORT_FAILED,
    OPAL_PORT_NOT_ACCEPTED. */
-static inline opal_count opal_port_complete(opal_handle *port, uint8_t tag)
+OPAL_MUST_USE static inline opal_count opal_port_complete(opal_handle *port, uint8_t tag)
 {
-    opal_count refused = { OPAL_NULL, 0 };
-    return port == NULL ? refused : opal_raw_port_complete(port, tag);
+    opal_count refused = { opal_raw_of(port), 0 };
+    return refused.code != OPAL_DONE ? refused : opal_raw_port_complete(port, tag);
 }
 
 /* The port recovers from a queued command that failed: it is answered by log page 10h, and the others that were out are
    prepared again. Refused: OPAL_PORT_NOT_FAILED. */
-static inline opal_count opal_port_recover(opal_handle *port)
+OPAL_MUST_USE static inline opal_count opal_port_recover(opal_handle *port)
 {
-    opal_count refused = { OPAL_NULL, 0 };
-    return port == NULL ? refused : opal_raw_port_recover(port);
+    opal_count refused = { opal_raw_of(port), 0 };
+    return refused.code != OPAL_DONE ? refused : opal_raw_port_recover(port);
 }
 
-/* A client resets the port and the drive: 0 is a power cycle, 1 a hardware reset. What waits is answered as stopped.
-   Refused: OPAL_NUMBER. */
-static inline opal_count opal_port_reset(opal_handle *port, uint32_t client, uint32_t kind)
+/* A client resets the port and the drive (enum opal_reset). What waits is answered as stopped. Refused: OPAL_NUMBER. */
+OPAL_MUST_USE static inline opal_count opal_port_reset(opal_handle *port, uint32_t client, uint32_t kind)
 {
-    opal_count refused = { OPAL_NULL, 0 };
-    return port == NULL ? refused : opal_raw_port_reset(port, client, kind);
+    opal_count refused = { opal_raw_of(port), 0 };
+    return refused.code != OPAL_DONE ? refused : opal_raw_port_reset(port, client, kind);
 }
 
 /* A client takes its answer, and the slot is free. Refused: OPAL_TAG, OPAL_PORT_NOT_ANSWERED, OPAL_PORT_NOT_YOURS. */
-static inline opal_taken opal_port_take(opal_handle *port, uint32_t client, uint8_t tag)
+OPAL_MUST_USE static inline opal_taken opal_port_take(opal_handle *port, uint32_t client, uint8_t tag)
 {
-    opal_taken refused = { OPAL_NULL, 0, 0, 0, 0, 0 };
-    return port == NULL ? refused : opal_raw_port_take(port, client, tag);
+    opal_taken refused = { opal_raw_of(port), 0, 0, 0, 0, 0 };
+    return refused.code != OPAL_DONE ? refused : opal_raw_port_take(port, client, tag);
 }
 
 /* The engine does a step of those that opal_port_ready lists: the one at `choice`, modulo their number. The number is 0
    where there is none. */
-static inline opal_count opal_port_turn(opal_handle *port, size_t choice)
+OPAL_MUST_USE static inline opal_count opal_port_turn(opal_handle *port, size_t choice)
 {
-    opal_count refused = { OPAL_NULL, 0 };
-    return port == NULL ? refused : opal_raw_port_turn(port, choice);
+    opal_count refused = { opal_raw_of(port), 0 };
+    return refused.code != OPAL_DONE ? refused : opal_raw_port_turn(port, choice);
 }
 
-/* What follows are no steps: the port is as before. All can be refused with OPAL_NULL, OPAL_NOT_OPEN and OPAL_OTHER_KIND. */
+/* What follows are no steps: the port is as before. All can be refused with OPAL_NULL, OPAL_MISALIGNED, OPAL_NOT_OPEN and
+   OPAL_OTHER_KIND; those with a buffer with OPAL_LENGTH and OPAL_SHARED. */
 
 /* Lists the steps that the engine may do, at most 32, by their kind, then by their tag, and tells how many they are.
    Refused: OPAL_ROOM. */
-static inline opal_count opal_port_ready(opal_handle *port, opal_ready *into, size_t length)
+OPAL_MUST_USE static inline opal_count opal_port_ready(const opal_handle *port, opal_ready *into, size_t length)
 {
-    if (port == NULL || !opal_raw_is(into, length)) {
-        opal_count refused = { OPAL_NULL, 0 };
+    opal_count refused = { length > SIZE_MAX / 2 / sizeof *into ? OPAL_LENGTH
+                                                                : opal_raw_into(port, into, length * sizeof *into), 0 };
+    if (refused.code != OPAL_DONE)
         return refused;
-    }
-    return opal_raw_port_ready(port, (opal_ready *)(void *)opal_raw_at(into), length);
+    return opal_raw_port_ready((opal_handle *)port, (opal_ready *)(void *)opal_raw_at(into), length);
 }
 
 /* Copies the data of what was taken last, and tells how many bytes they are. Refused: OPAL_ROOM. */
-static inline opal_count opal_port_data(opal_handle *port, void *into, size_t length)
+OPAL_MUST_USE static inline opal_count opal_port_data(const opal_handle *port, void *into, size_t length)
 {
-    if (port == NULL || !opal_raw_is(into, length)) {
-        opal_count refused = { OPAL_NULL, 0 };
-        return refused;
-    }
-    return opal_raw_port_data(port, opal_raw_at(into), length);
+    opal_count refused = { opal_raw_into(port, into, length), 0 };
+    return refused.code != OPAL_DONE ? refused : opal_raw_port_data((opal_handle *)port, opal_raw_at(into), length);
 }
 
 /* What the port shows: its registers, and how many denials there were. */
-static inline opal_shown opal_port_shown(opal_handle *port)
+OPAL_MUST_USE static inline opal_shown opal_port_shown(const opal_handle *port)
 {
-    opal_shown refused = { OPAL_NULL, 0, 0, 0, 0, 0 };
-    return port == NULL ? refused : opal_raw_port_shown(port);
+    opal_shown refused = { opal_raw_of(port), 0, 0, 0, 0, 0 };
+    return refused.code != OPAL_DONE ? refused : opal_raw_port_shown((opal_handle *)port);
 }
 
 /* Copies the line of the audit log at a place, as `6 1 deny read 100+1 range 1 ReadLocked`: the number of the step, the
    client and the reason. Place 0 is the oldest; where there is no line it has no bytes. It has no zero behind it. Refused:
    OPAL_ROOM, OPAL_OUT_OF_MEMORY. */
-static inline opal_count opal_port_denial(opal_handle *port, size_t place, char *into, size_t length)
+OPAL_MUST_USE static inline opal_count opal_port_denial(const opal_handle *port, size_t place, char *into, size_t length)
 {
-    if (port == NULL || !opal_raw_is(into, length)) {
-        opal_count refused = { OPAL_NULL, 0 };
-        return refused;
-    }
-    return opal_raw_port_denial(port, place, opal_raw_at(into), length);
+    opal_count refused = { opal_raw_into(port, into, length), 0 };
+    return refused.code != OPAL_DONE ? refused
+                                     : opal_raw_port_denial((opal_handle *)port, place, opal_raw_at(into), length);
 }
 
 /* Makes a controller over the drive that is asked for, at a handle with nothing: an AHCI host bus adapter with one port, as
    it is after its reset. Refused as opal_drive_new. */
-static inline uint32_t opal_hba_new(opal_handle *hba, const opal_config *config)
+OPAL_MUST_USE static inline opal_code opal_hba_new(opal_handle *hba, const opal_config *config)
 {
-    if (hba == NULL || config == NULL || !opal_raw_is(config->msid, config->msid_length)
-        || !opal_raw_is(config->psid, config->psid_length) || !opal_raw_is(config->ranges, config->range_count))
-        return OPAL_NULL;
-    opal_raw_size size = { config->sectors, config->shadow, config->has_datastore ? config->datastore : UINT64_MAX,
-                           config->profile };
-    return opal_raw_hba_new(hba, size, opal_raw_at(config->msid), config->msid_length, opal_raw_at(config->serial),
-                            opal_raw_length(config->serial), opal_raw_at(config->model), opal_raw_length(config->model),
-                            opal_raw_at(config->psid), config->psid_length,
-                            (const opal_range *)(const void *)opal_raw_at(config->ranges), config->range_count);
+    return opal_raw_new(opal_raw_hba_new, hba, config);
 }
 
+/* What follows are the calls of a controller. All can be refused with OPAL_NULL, OPAL_MISALIGNED, OPAL_NOT_OPEN and
+   OPAL_OTHER_KIND; those with a buffer with OPAL_LENGTH and OPAL_SHARED. */
+
 /* The 32 bits at an offset of the registers: the generic ones from 0h, the port's from 100h; 0 where no register is. Nothing
-   changes. Refused, as each call of a controller: OPAL_NULL, OPAL_NOT_OPEN, OPAL_OTHER_KIND. */
-static inline opal_count opal_hba_read(opal_handle *hba, uint32_t offset)
+   changes. */
+OPAL_MUST_USE static inline opal_count opal_hba_read(const opal_handle *hba, uint32_t offset)
 {
-    opal_count refused = { OPAL_NULL, 0 };
-    return hba == NULL ? refused : opal_raw_hba_read(hba, offset);
+    opal_count refused = { opal_raw_of(hba), 0 };
+    return refused.code != OPAL_DONE ? refused : opal_raw_hba_read((opal_handle *)hba, offset);
 }
 
 /* Writes 32 bits of the registers; nothing where no register is. No memory moves. */
-static inline uint32_t opal_hba_write(opal_handle *hba, uint32_t offset, uint32_t value)
+static inline opal_code opal_hba_write(opal_handle *hba, uint32_t offset, uint32_t value)
 {
-    return hba == NULL ? (uint32_t)OPAL_NULL : opal_raw_hba_write(hba, offset, value);
+    opal_code fault = opal_raw_of(hba);
+    return fault != OPAL_DONE ? fault : opal_raw_hba_write(hba, offset, value);
 }
 
 /* The interrupt line: 0 or 1. */
-static inline opal_count opal_hba_interrupt(opal_handle *hba)
+OPAL_MUST_USE static inline opal_count opal_hba_interrupt(const opal_handle *hba)
 {
-    opal_count refused = { OPAL_NULL, 0 };
-    return hba == NULL ? refused : opal_raw_hba_interrupt(hba);
+    opal_count refused = { opal_raw_of(hba), 0 };
+    return refused.code != OPAL_DONE ? refused : opal_raw_hba_interrupt((opal_handle *)hba);
+}
+
+/* The controller and its drive lose power, and have it again: the drive is reset by it, and the registers are those of a new
+   controller. */
+static inline opal_code opal_hba_power_cycle(opal_handle *hba)
+{
+    opal_code fault = opal_raw_of(hba);
+    return fault != OPAL_DONE ? fault : opal_raw_hba_power_cycle(hba);
 }
 
 /* The controller does a work of those that are ready, the one of the number `choice`, modulo how many they are: the
    signature of the device, fetches, completions, the least tag first. The host's memory is `memory`, from the address `base`
    on; there is no other. It is read and written in this call alone. Refused: OPAL_OUT_OF_MEMORY; the memory is then as it
    was. */
-static inline opal_worked opal_hba_turn(opal_handle *hba, size_t choice, uint32_t base, void *memory, size_t length)
+OPAL_MUST_USE static inline opal_worked opal_hba_turn(opal_handle *hba, size_t choice, uint32_t base, void *memory,
+                                                      size_t length)
 {
-    if (hba == NULL || !opal_raw_is(memory, length)) {
-        opal_worked refused = { OPAL_NULL, 0, 0, 0, false };
-        return refused;
-    }
-    return opal_raw_hba_turn(hba, choice, base, opal_raw_at(memory), length);
+    opal_worked refused = { opal_raw_into(hba, memory, length), 0, 0, 0, false };
+    return refused.code != OPAL_DONE ? refused : opal_raw_hba_turn(hba, choice, base, opal_raw_at(memory), length);
 }
 
 /* Copies the line of the audit log that tells what denied the command of the last turn, as
    `1 0 deny read 100+1 range 1 ReadLocked`: the number of the drive's act, the tag and the reason; no bytes, where nothing
    did. It has no zero behind it. Refused: OPAL_ROOM, OPAL_OUT_OF_MEMORY. */
-static inline opal_count opal_hba_denial(opal_handle *hba, char *into, size_t length)
+OPAL_MUST_USE static inline opal_count opal_hba_denial(const opal_handle *hba, char *into, size_t length)
 {
-    if (hba == NULL || !opal_raw_is(into, length)) {
-        opal_count refused = { OPAL_NULL, 0 };
-        return refused;
-    }
-    return opal_raw_hba_denial(hba, opal_raw_at(into), length);
+    opal_count refused = { opal_raw_into(hba, into, length), 0 };
+    return refused.code != OPAL_DONE ? refused : opal_raw_hba_denial((opal_handle *)hba, opal_raw_at(into), length);
 }
+
+/* What follows are calls of bytes alone. All can be refused with OPAL_NULL, OPAL_LENGTH and OPAL_SHARED. */
 
 /* The item that a token stream spells, with the names that the standards give to objects, methods and columns, or with
-   their numbers; or `malformed N NAME`. It has no zero behind it. Refused: OPAL_NULL, OPAL_ROOM, OPAL_OUT_OF_MEMORY. */
-static inline opal_count opal_tokens_text(bool by_name, const uint8_t *bytes, size_t bytes_length, char *into,
-                                          size_t length)
+   their numbers; or `malformed N NAME`. It has no zero behind it. Refused: OPAL_ROOM, OPAL_OUT_OF_MEMORY. */
+OPAL_MUST_USE static inline opal_count opal_tokens_text(int by_name, const void *bytes, size_t bytes_length, char *into,
+                                                        size_t length)
 {
-    if (!opal_raw_is(bytes, bytes_length) || !opal_raw_is(into, length)) {
-        opal_count refused = { OPAL_NULL, 0 };
+    opal_count refused = { opal_raw_between(bytes, bytes_length, into, length), 0 };
+    if (refused.code != OPAL_DONE)
         return refused;
-    }
-    return opal_raw_tokens(by_name, opal_raw_at(bytes), bytes_length, opal_raw_at(into), length);
+    return opal_raw_tokens(by_name != 0, opal_raw_at(bytes), bytes_length, opal_raw_at(into), length);
 }
 
-/* The fields of bytes of a kind (enum opal_kind), a line for each: its name, a blank, its value. Refused: OPAL_NULL,
-   OPAL_NUMBER, OPAL_MALFORMED, OPAL_ROOM, OPAL_OUT_OF_MEMORY. */
-static inline opal_count opal_decoded_text(uint32_t kind, const uint8_t *bytes, size_t bytes_length, char *into,
-                                           size_t length)
+/* The fields of bytes of a kind (enum opal_kind), a line for each: its name, a blank, its value. Refused: OPAL_NUMBER,
+   OPAL_MALFORMED, OPAL_ROOM, OPAL_OUT_OF_MEMORY. */
+OPAL_MUST_USE static inline opal_count opal_decoded_text(uint32_t kind, const void *bytes, size_t bytes_length, char *into,
+                                                         size_t length)
 {
-    if (!opal_raw_is(bytes, bytes_length) || !opal_raw_is(into, length)) {
-        opal_count refused = { OPAL_NULL, 0 };
+    opal_count refused = { opal_raw_between(bytes, bytes_length, into, length), 0 };
+    if (refused.code != OPAL_DONE)
         return refused;
-    }
     return opal_raw_decoded(kind, opal_raw_at(bytes), bytes_length, opal_raw_at(into), length);
 }
 
 /* The frame of a payload of 1 to 65,480 bytes: a ComPacket of one packet of a session with one data subpacket (TCG Core
-   2.01, 3.2.3). It has at most 59 bytes more than the payload. Refused: OPAL_NULL, OPAL_LENGTH, OPAL_ROOM,
-   OPAL_OUT_OF_MEMORY. */
-static inline opal_count opal_frame(uint16_t com_id, uint32_t tsn, uint32_t hsn, const uint8_t *payload,
-                                    size_t payload_length, uint8_t *into, size_t length)
+   2.01, 3.2.3). It has at most 59 bytes more than the payload. Refused: OPAL_LENGTH, OPAL_ROOM, OPAL_OUT_OF_MEMORY. */
+OPAL_MUST_USE static inline opal_count opal_frame(uint16_t com_id, uint32_t tsn, uint32_t hsn, const void *payload,
+                                                  size_t payload_length, void *into, size_t length)
 {
-    if (!opal_raw_is(payload, payload_length) || !opal_raw_is(into, length)) {
-        opal_count refused = { OPAL_NULL, 0 };
+    opal_count refused = { opal_raw_between(payload, payload_length, into, length), 0 };
+    if (refused.code != OPAL_DONE)
         return refused;
-    }
     return opal_raw_frame(com_id, tsn, hsn, opal_raw_at(payload), payload_length, opal_raw_at(into), length);
 }
 
-/* What the frame carries that the bytes begin with. Refused: OPAL_NULL, OPAL_MALFORMED. */
-static inline opal_carried opal_opened(const uint8_t *bytes, size_t length)
+/* What the frame carries that the bytes begin with. Refused: OPAL_MALFORMED. */
+OPAL_MUST_USE static inline opal_carried opal_opened(const void *bytes, size_t length)
 {
-    if (!opal_raw_is(bytes, length)) {
-        opal_carried refused = { OPAL_NULL, 0, 0, 0, 0, 0 };
-        return refused;
-    }
-    return opal_raw_opened(opal_raw_at(bytes), length);
+    opal_carried refused = { opal_raw_buffer(bytes, length), 0, 0, 0, 0, 0 };
+    return refused.code != OPAL_DONE ? refused : opal_raw_opened(opal_raw_at(bytes), length);
 }
 
 /* The 20 bytes of the FIS of a command (enum opal_command), of 1 to 65,536 sectors where it is a transfer. Only a queued
-   one has a tag. Refused: OPAL_NULL, OPAL_TAG, OPAL_NUMBER, OPAL_ROOM. */
-static inline opal_count opal_command_fis(uint32_t command, uint64_t lba, uint32_t count, uint8_t tag, uint8_t *into,
-                                          size_t length)
+   one has a tag. Refused: OPAL_TAG, OPAL_NUMBER, OPAL_ROOM. */
+OPAL_MUST_USE static inline opal_count opal_command_fis(uint32_t command, uint64_t lba, uint32_t count, uint8_t tag,
+                                                        uint8_t *into, size_t length)
 {
-    if (!opal_raw_is(into, length)) {
-        opal_count refused = { OPAL_NULL, 0 };
-        return refused;
-    }
-    return opal_raw_command_fis(command, lba, count, tag, opal_raw_at(into), length);
+    opal_count refused = { opal_raw_buffer(into, length), 0 };
+    return refused.code != OPAL_DONE ? refused : opal_raw_command_fis(command, lba, count, tag, opal_raw_at(into), length);
 }
 
-/* The 20 bytes of the FIS of TRUSTED SEND DMA, or of TRUSTED RECEIVE DMA, of so many blocks of 512 bytes. Refused:
-   OPAL_NULL, OPAL_ROOM. */
-static inline opal_count opal_trusted_fis(bool is_send, uint8_t protocol, uint16_t sp_specific, uint16_t blocks,
-                                          uint8_t *into, size_t length)
+/* The 20 bytes of the FIS of TRUSTED SEND DMA, or of TRUSTED RECEIVE DMA where `is_send` is 0, of so many blocks of 512 bytes:
+   by a security protocol (enum opal_protocol), with a ComID (enum opal_com_id) as its SP Specific. Refused: OPAL_ROOM. */
+OPAL_MUST_USE static inline opal_count opal_trusted_fis(int is_send, uint8_t protocol, uint16_t sp_specific, uint16_t blocks,
+                                                        uint8_t *into, size_t length)
 {
-    if (!opal_raw_is(into, length)) {
-        opal_count refused = { OPAL_NULL, 0 };
+    opal_count refused = { opal_raw_buffer(into, length), 0 };
+    if (refused.code != OPAL_DONE)
         return refused;
-    }
-    return opal_raw_trusted_fis(is_send, protocol, sp_specific, blocks, opal_raw_at(into), length);
+    return opal_raw_trusted_fis(is_send != 0, protocol, sp_specific, blocks, opal_raw_at(into), length);
 }
 
 /* A code in words. */
 static inline const char *opal_error_text(uint32_t code)
 {
-    switch (code) {
+    switch ((opal_code)code) {
     case OPAL_DONE: return "done";
     case OPAL_OUT_OF_MEMORY: return "an allocation was refused";
     case OPAL_NOT_OPEN: return "the handle has nothing";
@@ -712,11 +870,23 @@ static inline const char *opal_error_text(uint32_t code)
     case OPAL_NOT_HELD: return "no command is held under the tag";
     case OPAL_ROOM: return "the buffer is too short";
     case OPAL_IN_USE: return "the handle has something already";
-    case OPAL_LIMITS: return "a drive has no such size, PIN or name";
     case OPAL_NO_RANGE: return "there is no such range";
     case OPAL_OVERLAP: return "two ranges have a sector in common";
     case OPAL_BEYOND: return "a range ends beyond the drive, or the global range has a place";
     case OPAL_MALFORMED: return "bytes are not what they are to be";
+    case OPAL_SECTORS: return "a drive has 1 to 2^48 sectors";
+    case OPAL_SHADOW: return "a shadow MBR has at most 262,144 sectors, and at most all of the drive";
+    case OPAL_MSID: return "an MSID has 1 to 32 bytes";
+    case OPAL_PROFILE: return "there is no such profile";
+    case OPAL_SERIAL: return "a serial number has at most 20 characters of printable ASCII, and only with the profile field";
+    case OPAL_MODEL: return "a model number has at most 40 characters of printable ASCII, and only with the profile field";
+    case OPAL_PSID: return "a PSID has at most 32 bytes, and only with the profile field";
+    case OPAL_DATASTORE: return "a DataStore has at most 16,777,216 bytes, and only with the profile field";
+    case OPAL_RANGE_TWICE: return "two rows are of one range";
+    case OPAL_VERSION_DIFFERS:
+        return "header and library are of versions that do not fit, or a configuration lacks its size";
+    case OPAL_SHARED: return "a buffer that is written has a byte in common with another one, or with the handle";
+    case OPAL_MISALIGNED: return "a pointer to a struct is no multiple of 8";
     case OPAL_PORT_SLOT_BUSY: return "the slot is not free";
     case OPAL_PORT_NOT_PREPARED: return "the slot has no prepared command";
     case OPAL_PORT_QUEUE: return "queued and other commands would mix";
@@ -728,8 +898,8 @@ static inline const char *opal_error_text(uint32_t code)
     case OPAL_PORT_NOT_YOURS: return "the answer is another client's";
     case OPAL_PORT_SIZE: return "a transfer has no size that the port takes";
     case OPAL_PORT_HISTORY_FULL: return "the history of the port is full";
-    default: return "no code of this library";
     }
+    return "no code of this library";
 }
 
 #ifdef __cplusplus

@@ -7,8 +7,7 @@
 #include <stdlib.h>
 #include <string.h>
 
-enum { SECTOR = 512, COM_ID = 0x1000, SECURITY = 1 };
-enum { READY = 0x50, FAILED = 0x51, ABORTED = 0x04 };
+enum { SECTOR = OPAL_SECTOR_BYTES };
 
 static opal_handle drive = OPAL_NONE;
 
@@ -45,10 +44,10 @@ static void call(const char *what, uint32_t tsn, uint32_t hsn, const uint8_t *to
 {
     uint8_t block[SECTOR] = { 0 }, fis[20];
     char text[200];
-    must(opal_frame(COM_ID, tsn, hsn, tokens, length, block, sizeof block).code == OPAL_DONE, "no frame");
-    must(opal_trusted_fis(true, SECURITY, COM_ID, 1, fis, sizeof fis).code == OPAL_DONE, "no FIS");
-    must(opal_drive_accept(&drive, fis, sizeof fis, block, sizeof block).status == READY, "the send failed");
-    must(opal_trusted_fis(false, SECURITY, COM_ID, 1, fis, sizeof fis).code == OPAL_DONE, "no FIS");
+    must(opal_frame(OPAL_COM_ID, tsn, hsn, tokens, length, block, sizeof block).code == OPAL_DONE, "no frame");
+    must(opal_trusted_fis(true, OPAL_PROTOCOL_TCG, OPAL_COM_ID, 1, fis, sizeof fis).code == OPAL_DONE, "no FIS");
+    must(opal_drive_accept(&drive, fis, sizeof fis, block, sizeof block).status == OPAL_STATUS_DONE, "the send failed");
+    must(opal_trusted_fis(false, OPAL_PROTOCOL_TCG, OPAL_COM_ID, 1, fis, sizeof fis).code == OPAL_DONE, "no FIS");
     must(opal_drive_accept(&drive, fis, sizeof fis, NULL, 0).length == SECTOR, "the receive failed");
     must(opal_drive_data(&drive, block, sizeof block).code == OPAL_DONE, "no data");
     opal_carried carried = opal_opened(block, sizeof block);
@@ -74,23 +73,25 @@ static const uint8_t unlock[] = {
 static void denied_and_recovered(void)
 {
     opal_answer answer = give(OPAL_READ_DMA, 100, 1, 0, NULL, 0);
-    must(answer.status == FAILED && answer.error == ABORTED && answer.denied, "a locked sector was read");
+    must(answer.status == OPAL_STATUS_FAILED && answer.error == OPAL_ERROR_ABORTED && answer.denied,
+         "a locked sector was read");
     tell("READ DMA EXT of 100", answer);
 
     answer = give(OPAL_READ_QUEUED, 95, 6, 3, NULL, 0);
-    must(answer.status == FAILED && answer.denied && !answer.held, "a locked sector is held for a read");
+    must(answer.status == OPAL_STATUS_FAILED && answer.denied && !answer.held, "a locked sector is held for a read");
     tell("READ FPDMA QUEUED of 95 to 100", answer);
 
     opal_failed failed = opal_drive_failure(&drive);
     must(failed.failed && failed.queued && failed.tag == 3 && failed.lba == 95, "the queue tells another failure");
     answer = give(OPAL_READ_DMA, 0, 1, 0, NULL, 0);
-    must(answer.status == FAILED && answer.error == ABORTED && !answer.denied, "a failed queue serves a read");
+    must(answer.status == OPAL_STATUS_FAILED && answer.error == OPAL_ERROR_ABORTED && !answer.denied,
+         "a failed queue serves a read");
     tell("READ DMA EXT of 0, while the queue has failed", answer);
 
     uint8_t page[SECTOR];
     answer = give(OPAL_READ_QUEUE_ERROR, 0, 0, 0, NULL, 0);
-    must(answer.status == READY && answer.length == SECTOR, "no log page 10h");
-    must(opal_drive_data(&drive, page, sizeof page).number == SECTOR && page[0] == 3 && page[3] == ABORTED,
+    must(answer.status == OPAL_STATUS_DONE && answer.length == SECTOR, "no log page 10h");
+    must(opal_drive_data(&drive, page, sizeof page).number == SECTOR && page[0] == 3 && page[3] == OPAL_ERROR_ABORTED,
          "log page 10h names another command");
     must(!opal_drive_failure(&drive).failed, "the queue has still failed");
     tell("READ LOG DMA EXT of log 10h", answer);
@@ -135,10 +136,10 @@ static void refused(void)
 
 int main(void)
 {
-    static const uint8_t msid[] = { 'O', 'P', 'A', 'L', 'M', 'S', 'I', 'D' };
     static const opal_range locked = { 100, 10, 1, 1, 1, 1, 1 };
-    opal_config config = { .sectors = 1000, .shadow = 8, .msid = msid, .msid_length = sizeof msid, .ranges = &locked,
-                           .range_count = 1 };
+    opal_config config = OPAL_CONFIG_INIT;
+    config.ranges = &locked;
+    config.range_count = 1;
     must(opal_drive_new(&drive, &config) == OPAL_DONE, "no drive");
     must(opal_drive_new(&drive, &config) == OPAL_IN_USE, "a second drive at one handle");
     denied_and_recovered();

@@ -60,10 +60,10 @@ static opal_worked read_sector(uint8_t sector)
 
 int main(void)
 {
-    static const uint8_t msid[] = { 'O', 'P', 'A', 'L', 'M', 'S', 'I', 'D' };
     static const opal_range locked = { 100, 10, 1, 1, 1, 1, 1 };
-    opal_config config = { .sectors = 1000, .shadow = 8, .msid = msid, .msid_length = sizeof msid, .ranges = &locked,
-                           .range_count = 1 };
+    opal_config config = OPAL_CONFIG_INIT;
+    config.ranges = &locked;
+    config.range_count = 1;
     char line[200];
     must(opal_hba_new(&hba, &config) == OPAL_DONE, "no controller");
     write_register(GHC, (uint32_t)AE_IE);
@@ -86,6 +86,12 @@ int main(void)
     must(!read_sector(0).denied && memory[DATA] == 0 && memory[DATA + 511] == 0, "sector 0 was not read");
     must(opal_hba_turn(&hba, 0, BASE, memory, sizeof memory).work == OPAL_WORK_NONE, "something is left to do");
     must(opal_hba_turn(&hba, 0, BASE, NULL, 1).code == OPAL_NULL, "a null memory is taken");
+    must(opal_hba_turn(&hba, 0, BASE, &hba, sizeof hba).code == OPAL_SHARED, "the handle is taken for memory");
+    opal_about about = opal_about_handle(&hba);
+    must(about.kind == OPAL_HBA && about.sectors == 1000 && about.profile == OPAL_BASE, "the handle has something else");
+
+    must(opal_hba_power_cycle(&hba) == OPAL_DONE && read_register(PxCLB) == 0, "a power cycle leaves a register");
+    printf("after a power cycle: PxCMD %x, PxTFD %04x\n", (unsigned)read_register(PxCMD), (unsigned)read_register(PxTFD));
     must(opal_port_recover(&hba).code == OPAL_OTHER_KIND && opal_free(&hba) == OPAL_DONE, "not freed");
     return 0;
 }

@@ -106,7 +106,7 @@ static void read_back(void)
     printf("16 client 1 takes slot 0: %zu bytes, as they were written\n", taken.length);
 
     step("client 2 puts FLUSH CACHE EXT in slot 31", put(BOB, 31, OPAL_FLUSH, 0, -1), 17);
-    step("client 2 resets", opal_port_reset(&port, BOB, 1), 18);
+    step("client 2 resets", opal_port_reset(&port, BOB, OPAL_HARDWARE_RESET), 18);
     must(opal_port_take(&port, BOB, 31).ending == OPAL_TAKEN_RESET, "the flush is not stopped");
 }
 
@@ -128,17 +128,17 @@ static void refused(const opal_config *config)
     printf("no room: %s\n", opal_error_text(opal_port_denial(&port, 0, (char *)&byte, 1).code));
     printf("a handle with nothing: %s\n", opal_error_text(opal_port_recover(&none).code));
     printf("a drive: %s\n", opal_error_text(opal_port_recover(&drive).code));
-    printf("a port that is asked as a drive: %s\n", opal_error_text(opal_drive_reset(&port, 0)));
+    printf("a port that is asked as a drive: %s\n", opal_error_text(opal_drive_reset(&port, OPAL_POWER_CYCLE)));
     must(opal_free(&drive) == OPAL_DONE && opal_free(&port) == OPAL_DONE, "not freed");
     printf("a freed port: %s\n", opal_error_text(opal_port_recover(&port).code));
 }
 
 int main(void)
 {
-    static const uint8_t msid[] = { 'O', 'P', 'A', 'L', 'M', 'S', 'I', 'D' };
     static const opal_range locked = { 100, 10, 1, 1, 0, 1, 0 };
-    opal_config config = { .sectors = 1000, .shadow = 8, .msid = msid, .msid_length = sizeof msid, .ranges = &locked,
-                           .range_count = 1 };
+    opal_config config = OPAL_CONFIG_INIT;
+    config.ranges = &locked;
+    config.range_count = 1;
     must(opal_port_new(&port, &config) == OPAL_DONE, "no port");
     must(opal_port_new(&port, &config) == OPAL_IN_USE, "a second port at one handle");
     failed_and_recovered();

@@ -29,7 +29,7 @@
 #define THREAD_MODEL NBDKIT_THREAD_MODEL_SERIALIZE_ALL_REQUESTS
 enum { SECTOR = 512, MOST_SECTORS = 65536, MOST_BLOCKS = 65535, RANGES = 17, FIS = 20, LINE = 256, DONE = 0x50 };
 
-static opal_config config = { .sectors = 20480, .shadow = 8 };
+static opal_config config = { .size = sizeof(opal_config), .sectors = 20480, .shadow = 8 };
 static opal_range rows[RANGES];
 static opal_handle drive = OPAL_NONE;
 static pthread_mutex_t lock = PTHREAD_MUTEX_INITIALIZER; /* over the drive: requests and the control thread share it */
@@ -70,16 +70,18 @@ static int opal_plugin_config(const char *key, const char *value)
     if (strcmp(key, "profile") == 0 && (strcmp(value, "base") == 0 || strcmp(value, "field") == 0))
         config.profile = strcmp(value, "field") == 0;
     else if (strcmp(key, "msid") == 0) {
-        config.msid = (const uint8_t *)value;
+        config.msid = value;
         config.msid_length = strlen(value);
     } else if (strcmp(key, "psid") == 0) {
-        config.psid = (const uint8_t *)value;
+        config.psid = value;
         config.psid_length = strlen(value);
-    } else if (strcmp(key, "serial") == 0)
+    } else if (strcmp(key, "serial") == 0) {
         config.serial = value;
-    else if (strcmp(key, "model") == 0)
+        config.serial_length = strlen(value);
+    } else if (strcmp(key, "model") == 0) {
         config.model = value;
-    else {
+        config.model_length = strlen(value);
+    } else {
         nbdkit_error("no parameter %s=%s", key, value);
         return -1;
     }
@@ -263,7 +265,7 @@ static int opens_control(void)
 static int opal_plugin_after_fork(void)
 {
     if (!config.msid) {
-        config.msid = (const uint8_t *)"OPALMSID";
+        config.msid = "OPALMSID";
         config.msid_length = 8;
     }
     config.ranges = rows;

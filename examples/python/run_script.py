@@ -285,6 +285,8 @@ def run(options, given, out):
         except BadLine:
             return 2
         if verb == b"range" and script is None:
+            # In a script the last row of a range holds; the library takes one for each.
+            rows = [it for it in rows if it.range != words[0]]
             rows.append(Range(words[0], words[1], words[2], *(bool(it) for it in words[3:])))
             continue
         if script is None:
@@ -347,7 +349,7 @@ def main(words, given, out):
             answer = drive.accept(trusted_fis(False, SECURITY, DISCOVERY_COM_ID, 1))
             out.write(shown(SECURITY, DISCOVERY_COM_ID, answer.data).hex().encode() + b"\n")
     except OpalError as error:
-        return 2 if error.code in (Code.LIMITS, Code.NO_RANGE, Code.OVERLAP, Code.BEYOND) else 3
+        return 3 if error.code == Code.OUT_OF_MEMORY else 2
     return 0
 
 

@@ -1,13 +1,15 @@
 """A drive whose range 1 is locked, by the library, and by the program behind pipes. The values are worked from ACS-3 and
 TCG Core 2.01. `.ci/library` runs it: OPALPORT_LIBRARY names the shared library, OPALPORT_PROGRAM the program, and python/ is
 on the path of modules."""
+import copy
 import gc
 import os
+import pickle
 import threading
 import unittest
 
-from opalport import (Code, Command, Drive, EngineStep, Failure, Kind, OpalError, Port, Range, Taken, command_fis,
-                      decoded_text, frame, opened, tokens_text, trusted_fis)
+from opalport import (Code, Command, Drive, EngineStep, Failure, Hba, Kind, OpalError, Port, Range, Reset, Taken, Went, Work,
+                      Worked, command_fis, decoded_text, frame, library_version, opened, tokens_text, trusted_fis)
 from opalport_pipe import PipedDrive
 
 LOCKED = Range(1, 100, 10, True, True, True, True)
@@ -75,7 +77,7 @@ class OnADrive(unittest.TestCase):
         self.call(0, 0, START)
         self.call(0x1000, 7, UNLOCK)
         self.assertFalse(self.drive.accept(read(100)).has_failed)
-        self.drive.reset(0)
+        self.drive.reset(Reset.POWER_CYCLE)
         self.assertTrue(self.drive.accept(read(100)).has_failed)
 
     def test_what_a_caller_gets_wrong_is_an_error(self):
@@ -117,16 +119,57 @@ class OnADrive(unittest.TestCase):
     def test_a_drive_that_cannot_be(self):
         def make(**options):
             Drive(**options)
-        for options in ({"sectors": 0}, {"sectors": 2**48 + 1}, {"shadow": 1001}, {"msid": b""}, {"msid": bytes(33)},
-                        {"serial": "1"}, {"field": True, "serial": "x" * 21}, {"datastore": 1}):
+        for code, options in ((Code.SECTORS, {"sectors": 0}), (Code.SECTORS, {"sectors": 2**48 + 1}), (Code.SHADOW, {"shadow": 1001}),
+                              (Code.MSID, {"msid": b""}), (Code.MSID, {"msid": bytes(33)}), (Code.SERIAL, {"serial": "1"}),
+                              (Code.SERIAL, {"field": True, "serial": "x" * 21}), (Code.MODEL, {"field": True, "model": "\n"}),
+                              (Code.PSID, {"psid": b"1"}), (Code.PSID, {"field": True, "psid": bytes(33)}),
+                              (Code.DATASTORE, {"datastore": 1}), (Code.DATASTORE, {"field": True, "datastore": 2**24 + 1})):
             with self.assertRaises(OpalError) as it:
                 make(**options)
-            self.assertEqual(it.exception.code, Code.LIMITS)
-        for code, ranges in ((Code.NO_RANGE, [Range(17, 0, 1)]), (Code.OVERLAP, [LOCKED, Range(2, 109, 1)]),
+            self.assertEqual(it.exception.code, code)
+        for code, ranges in ((Code.RANGE_TWICE, [LOCKED, Range(1, 200, 1)]), (Code.NO_RANGE, [Range(17, 0, 1)]), (Code.OVERLAP, [LOCKED, Range(2, 109, 1)]),
                              (Code.BEYOND, [Range(1, 1000, 1)])):
             with self.assertRaises(OpalError) as it:
                 make(ranges=ranges)
             self.assertEqual(it.exception.code, code)
+
+    def test_what_a_drive_is_made_with(self):
+        self.assertEqual((self.drive.sectors, self.drive.shadow, self.drive.field), (1000, 8, False))
+        with Drive(sectors=2048, shadow=0, field=True) as drive:
+            self.assertEqual((drive.sectors, drive.shadow, drive.field), (2048, 0, True))
+        self.assertEqual(library_version().split(" ")[0].count("."), 2)
+
+    def test_buffers_are_taken_as_they_are(self):
+        data = bytearray(b"\x01\x02" * 256)
+        for payload in (bytes(data), data, memoryview(data), memoryview(bytes(data)), memoryview(data + data)[::2]):
+            self.assertEqual(self.drive.accept(command_fis(Command.WRITE_DMA, 5), payload).status, 0x50)
+            self.assertEqual(self.drive.accept(memoryview(bytearray(read(5)))).data, bytes(payload))
+        into = bytearray(600)
+        answer = self.drive.accept_into(read(5), memoryview(into)[8:])
+        self.assertEqual((answer.status, bytes(answer.data), bytes(into[8:520])), (0x50, b"\x01" * SECTOR, b"\x01" * SECTOR))
+        self.assertEqual((into[:8], into[520:]), (bytes(8), bytes(80)))
+        self.refuses(Code.ROOM, self.drive.accept_into, read(5), bytearray(511))
+        for payload in (512, "1", None):
+            with self.assertRaises(TypeError):
+                self.drive.accept(command_fis(Command.WRITE_DMA, 5), payload)
+        with self.assertRaises(TypeError):
+            self.drive.accept_into(read(5), bytes(512))
+
+    def test_a_drive_is_not_copied(self):
+        for call in (copy.copy, copy.deepcopy, pickle.dumps):
+            with self.assertRaises(TypeError):
+                call(self.drive)
+        self.assertIsNone(self.drive.failure())
+
+    def test_an_error_says_what_to_do_and_passes_between_processes(self):
+        for code in Code:
+            error = pickle.loads(pickle.dumps(OpalError(code)))
+            self.assertEqual((error.code, str(error)), (code, str(OpalError(code))))
+        self.assertIn("0 to 31", str(OpalError(Code.TAG)))
+        self.assertEqual((OpalError(999).code, str(OpalError(999))), (999, "the code 999"))
+        self.drive.close()
+        with self.assertRaises(ValueError):
+            self.drive.failure()
 
     def test_bytes_as_text(self):
         self.assertEqual(tokens_text(b""), "malformed 1 Truncated")
@@ -247,10 +290,61 @@ class OnAPort(unittest.TestCase):
         self.refuses(Code.NOT_OPEN, port.shown)
 
     def test_a_port_that_cannot_be(self):
-        for code, options in ((Code.LIMITS, {"sectors": 0}), (Code.NO_RANGE, {"ranges": [Range(17, 0, 1)]})):
+        for code, options in ((Code.SECTORS, {"sectors": 0}), (Code.NO_RANGE, {"ranges": [Range(17, 0, 1)]})):
             with self.assertRaises(OpalError) as it:
                 Port(**options)
             self.assertEqual(it.exception.code, code)
+
+
+class OnAController(unittest.TestCase):
+    """AHCI 1.3.1: the registers by their offsets; a command list at 100000h, received FISes at 101000h, a table at 102000h."""
+    BASE, PxCLB, PxFB, PxIS, PxCMD, PxTFD, PxSERR, PxCI = 0x100000, 0x100, 0x108, 0x110, 0x118, 0x120, 0x130, 0x138
+
+    def setUp(self):
+        self.hba, self.memory = Hba(ranges=[LOCKED]), bytearray(0x4000)
+        self.addCleanup(self.hba.close)
+
+    def put(self, at, *words):
+        for word in words:
+            self.memory[at:at + 4] = word.to_bytes(4, "little")
+            at += 4
+
+    def start(self):
+        for offset, value in ((self.PxCLB, self.BASE), (self.PxFB, self.BASE + 0x1000), (self.PxSERR, 2**32 - 1), (self.PxCMD, 0x11)):
+            self.hba.write(offset, value)
+        self.assertEqual(self.hba.turn(self.memory, self.BASE), Worked(Work.SIGNATURE, 0, Went.POSTED, False))
+
+    def read(self, lba):
+        """READ DMA EXT of a sector in slot 0, by a descriptor of 512 bytes at 103000h."""
+        self.put(0, 5 | 1 << 16, 0, self.BASE + 0x2000)
+        self.memory[0x2000:0x2014] = read(lba)
+        self.put(0x2080, self.BASE + 0x3000, 0, 0, 511)
+        self.hba.write(self.PxCI, 1)
+        return self.hba.turn(self.memory, self.BASE)
+
+    def test_a_locked_read_is_denied_and_another_one_served(self):
+        self.start()
+        self.memory[0x3000:0x3200] = b"\xff" * SECTOR
+        self.assertEqual(self.read(100), Worked(Work.FETCH, 0, Went.SERVED, True))
+        self.assertEqual((self.hba.read(self.PxTFD), self.memory[0x3000]), (0x0451, 0xff))
+        self.assertEqual(self.hba.denial(), "1 0 deny read 100+1 range 1 ReadLocked")
+        self.hba.power_cycle()
+        self.assertEqual((self.hba.read(self.PxCLB), self.hba.read(self.PxCI), self.hba.interrupt()), (0, 0, False))
+        self.start()
+        self.assertEqual(self.read(0), Worked(Work.FETCH, 0, Went.SERVED, False))
+        self.assertEqual(self.memory[0x3000:0x3200], bytes(SECTOR))
+        self.assertEqual(self.hba.turn(self.memory, self.BASE).work, Work.NONE)
+
+    def test_what_a_caller_gets_wrong_is_an_error(self):
+        with self.assertRaises(OpalError) as it:
+            self.hba.read(2**32)
+        self.assertEqual(it.exception.code, Code.NUMBER)
+        with self.assertRaises(TypeError):
+            self.hba.turn(bytes(512))
+        self.hba.close()
+        with self.assertRaises(OpalError) as it:
+            self.hba.interrupt()
+        self.assertEqual(it.exception.code, Code.NOT_OPEN)
 
 
 @unittest.skipUnless(os.environ.get("OPALPORT_PROGRAM"), "OPALPORT_PROGRAM names no program")

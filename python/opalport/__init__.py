@@ -1,5 +1,8 @@
-"""A self-locking drive in this process, or a port with a drive behind it: Python over the C library (include/opalport.h), by
-`ctypes`. A call of a drive waits until a call of it in another thread has ended.
+"""A self-locking drive in this process, or a port or a controller with a drive behind it: Python over the C library
+(include/opalport.h), by `ctypes`. A call of an object waits until a call of it in another thread has ended.
+
+What is given as bytes may be `bytes`, `bytearray`, a `memoryview` or any other buffer of bytes; one that can be written is not
+copied, nor are `bytes`.
 
 The shared library is that which the environment variable OPALPORT_LIBRARY names, else libopalport.so.0 beside this file, where
 a wheel has it, else that of the system.
@@ -19,8 +22,9 @@ from types import TracebackType
 from typing import Any, List, Optional, Sequence, Tuple, Type, TypeVar, Union
 
 __all__ = [
-    "Answer", "Carried", "Code", "Command", "Drive", "EngineStep", "Failure", "Kind", "OpalError", "Port", "Range",
-    "Shown", "Taken", "command_fis", "decoded_text", "frame", "opened", "tokens_text", "trusted_fis",
+    "Answer", "Carried", "ClosedError", "Code", "Command", "Drive", "EngineStep", "Failure", "Hba", "Kind", "OpalError", "Port",
+    "Range", "Reset", "Shown", "Taken", "Went", "Work", "Worked", "command_fis", "decoded_text", "frame", "library_version",
+    "opened", "tokens_text", "trusted_fis",
 ]
 
 __version__ = "0.2.0"
@@ -31,6 +35,7 @@ MSID = b"OPALMSID"
 NAME = "libopalport.so.0"
 
 Bytes = Union[bytes, bytearray, memoryview]
+Buffer = Union[bytearray, memoryview]
 _Self = TypeVar("_Self", bound="_Object")
 
 
@@ -48,11 +53,22 @@ class Code(enum.IntEnum):
     NOT_HELD = 8
     ROOM = 9
     IN_USE = 10
-    LIMITS = 11
     NO_RANGE = 12
     OVERLAP = 13
     BEYOND = 14
     MALFORMED = 15
+    SECTORS = 16
+    SHADOW = 17
+    MSID = 18
+    PROFILE = 19
+    SERIAL = 20
+    MODEL = 21
+    PSID = 22
+    DATASTORE = 23
+    RANGE_TWICE = 24
+    VERSION_DIFFERS = 25
+    SHARED = 26
+    MISALIGNED = 27
     PORT_SLOT_BUSY = 101
     PORT_NOT_PREPARED = 102
     PORT_QUEUE = 103
@@ -66,14 +82,67 @@ class Code(enum.IntEnum):
     PORT_HISTORY_FULL = 111
 
 
-class OpalError(Exception):
-    """A call was refused, and nothing was done."""
+_WORDS = {
+    Code.OUT_OF_MEMORY: "an allocation was refused; free what is not needed, and call again",
+    Code.NOT_OPEN: "the object is closed; make another one",
+    Code.OTHER_KIND: "the handle has an object of another kind",
+    Code.NULL: "a pointer is null",
+    Code.LENGTH: "a FIS has not 20 bytes, or a payload not as many as its command brings: payload_length and expects tell how many",
+    Code.TAG: "a tag is above 31; tags are 0 to 31",
+    Code.NUMBER: "a number is none of those that the call takes",
+    Code.NOT_HELD: "no command is held under the tag; complete what an accept has answered as held",
+    Code.ROOM: "the buffer is too short; give a longer one",
+    Code.IN_USE: "the handle has something already",
+    Code.NO_RANGE: "there is no such range; ranges are 0 to 16",
+    Code.OVERLAP: "two ranges have a sector in common; move or shorten one",
+    Code.BEYOND: "a range ends beyond the drive, or the global range has a place",
+    Code.MALFORMED: "the bytes are not what they are to be",
+    Code.SECTORS: "sectors: a drive has 1 to 2**48",
+    Code.SHADOW: "shadow: a shadow MBR has at most 262,144 sectors, and at most all of the drive",
+    Code.MSID: "msid: it has 1 to 32 bytes",
+    Code.PROFILE: "there is no such profile",
+    Code.SERIAL: "serial: at most 20 characters of printable ASCII, and with field=True alone",
+    Code.MODEL: "model: at most 40 characters of printable ASCII, and with field=True alone",
+    Code.PSID: "psid: at most 32 bytes, and with field=True alone",
+    Code.DATASTORE: "datastore: at most 16,777,216 bytes, and with field=True alone",
+    Code.RANGE_TWICE: "ranges: two rows are of one range; give one row for each",
+    Code.VERSION_DIFFERS: "the module and the library are of versions that do not fit; OPALPORT_LIBRARY names another library",
+    Code.SHARED: "a buffer that is written has a byte in common with another one",
+    Code.MISALIGNED: "a pointer to a struct is not aligned",
+    Code.PORT_SLOT_BUSY: "the slot is not free; take its answer first, or use another tag",
+    Code.PORT_NOT_PREPARED: "the slot has no prepared command; put one first",
+    Code.PORT_QUEUE: "queued and other commands would mix; wait until the others have ended",
+    Code.PORT_NOT_ISSUED: "the slot has no issued command; issue it first",
+    Code.PORT_NOT_ACCEPTED: "the slot has no accepted command; accept it first",
+    Code.PORT_NOT_FAILED: "the port has not failed",
+    Code.PORT_FAILED: "the port has failed; recover or reset it first",
+    Code.PORT_NOT_ANSWERED: "the slot has no answer yet",
+    Code.PORT_NOT_YOURS: "the answer is another client's",
+    Code.PORT_SIZE: "a transfer is empty, above 256 blocks, no whole blocks, or at no address of 48 bits",
+    Code.PORT_HISTORY_FULL: "the port has done 1,048,576 steps; make another one",
+}
 
-    code: Code
+
+class OpalError(Exception):
+    """A call was refused, and nothing was done. `code` is a `Code`, or the number of one that this module does not know."""
+
+    code: int
 
     def __init__(self, code: int) -> None:
-        super().__init__(Code(code).name.lower().replace("_", " "))
-        self.code = Code(code)
+        super().__init__(code)
+        self.code = Code(code) if code in _CODES else code
+
+    def __str__(self) -> str:
+        if not isinstance(self.code, Code):
+            return f"the code {self.code}"
+        return f"{self.code.name.lower().replace('_', ' ')}: {_WORDS.get(self.code, 'done')}"
+
+
+class ClosedError(OpalError, ValueError):
+    """The object was closed: a ValueError, as that of a file."""
+
+
+_CODES = frozenset(int(it) for it in Code)
 
 
 class Command(enum.IntEnum):
@@ -88,6 +157,35 @@ class Command(enum.IntEnum):
     FLUSH = 6
     TRUSTED_SEND = 7
     TRUSTED_RECEIVE = 8
+
+
+class Reset(enum.IntEnum):
+    """A reset of a drive or a port."""
+
+    POWER_CYCLE = 0
+    HARDWARE = 1
+
+
+class Work(enum.IntEnum):
+    """The work of a controller's turn."""
+
+    NONE = 0
+    SIGNATURE = 1
+    FETCH = 2
+    COMPLETE = 3
+
+
+class Went(enum.IntEnum):
+    """How the work of a turn went: the signature was posted, the drive served the command, the FIS was none; or what was not in
+    the memory."""
+
+    POSTED = 0
+    SERVED = 1
+    CONTROL = 2
+    NO_LIST = 3
+    NO_TABLE = 4
+    NO_DATA = 5
+    NO_FIS = 6
 
 
 class EngineStep(enum.IntEnum):
@@ -132,7 +230,7 @@ class Answer:
     error: int
     held: bool
     denied: bool
-    data: bytes
+    data: Bytes
 
     @property
     def has_failed(self) -> bool:
@@ -185,6 +283,16 @@ class Shown:
     active: int
     issued: int
     denials: int
+
+
+@dataclass(frozen=True)
+class Worked:
+    """The work of a controller's turn, the tag of its command, how it went, and whether the command was denied."""
+
+    work: Work
+    tag: int
+    went: Went
+    denied: bool
 
 
 class _Handle(ctypes.Structure):
@@ -241,10 +349,23 @@ class _Shown(ctypes.Structure):
                 ("active", ctypes.c_uint32), ("issued", ctypes.c_uint32), ("denials", ctypes.c_size_t)]
 
 
-_BYTES = [ctypes.c_char_p, ctypes.c_size_t]
+class _Worked(ctypes.Structure):
+    _fields_ = [("code", ctypes.c_uint32), ("work", ctypes.c_uint8), ("tag", ctypes.c_uint8), ("went", ctypes.c_uint8),
+                ("denied", ctypes.c_bool)]
+
+
+class _About(ctypes.Structure):
+    _fields_ = [("code", ctypes.c_uint32), ("kind", ctypes.c_uint8), ("profile", ctypes.c_uint8),
+                ("sectors", ctypes.c_uint64), ("shadow", ctypes.c_uint64)]
+
+
+_BYTES = [ctypes.c_void_p, ctypes.c_size_t]
 _HANDLE = [ctypes.POINTER(_Handle)]
 _MAKE = [*_HANDLE, _Size, *_BYTES, *_BYTES, *_BYTES, *_BYTES, ctypes.POINTER(_Range), ctypes.c_size_t]
 _CALLS = {
+    "version": (ctypes.c_uint32, []),
+    "version_text": (_Count, _BYTES),
+    "about": (_About, _HANDLE),
     "drive_new": (ctypes.c_uint32, _MAKE),
     "free": (ctypes.c_uint32, _HANDLE),
     "drive_accept": (_Answer, [*_HANDLE, *_BYTES, *_BYTES]),
@@ -268,6 +389,13 @@ _CALLS = {
     "port_data": (_Count, [*_HANDLE, *_BYTES]),
     "port_shown": (_Shown, _HANDLE),
     "port_denial": (_Count, [*_HANDLE, ctypes.c_size_t, *_BYTES]),
+    "hba_new": (ctypes.c_uint32, _MAKE),
+    "hba_read": (_Count, [*_HANDLE, ctypes.c_uint32]),
+    "hba_write": (ctypes.c_uint32, [*_HANDLE, ctypes.c_uint32, ctypes.c_uint32]),
+    "hba_interrupt": (_Count, _HANDLE),
+    "hba_power_cycle": (ctypes.c_uint32, _HANDLE),
+    "hba_turn": (_Worked, [*_HANDLE, ctypes.c_size_t, ctypes.c_uint32, *_BYTES]),
+    "hba_denial": (_Count, [*_HANDLE, *_BYTES]),
     "tokens": (_Count, [ctypes.c_bool, *_BYTES, *_BYTES]),
     "decoded": (_Count, [ctypes.c_uint32, *_BYTES, *_BYTES]),
     "frame": (_Count, [ctypes.c_uint16, ctypes.c_uint32, ctypes.c_uint32, *_BYTES, *_BYTES]),
@@ -284,6 +412,9 @@ class _Library:
         beside = os.path.join(os.path.dirname(os.path.abspath(__file__)), NAME)
         found = beside if os.path.isfile(beside) else NAME
         library = ctypes.CDLL(os.environ.get("OPALPORT_LIBRARY", found))
+        # One that is older has no version; one that differs may have other numbers in its structs.
+        if not hasattr(library, "opal_raw_version") or library.opal_raw_version() >> 8 != _VERSION:
+            raise OpalError(Code.VERSION_DIFFERS)
         for name, (result, parameters) in _CALLS.items():
             call = getattr(library, f"opal_raw_{name}")
             call.restype, call.argtypes = result, parameters
@@ -293,10 +424,14 @@ class _Library:
         raise AttributeError(name)
 
 
+# What a library that fits has of its version: major and minor, a byte each.
+_VERSION = int(__version__.split(".")[0]) << 8 | int(__version__.split(".")[1])
 _LIBRARY = _Library()
 
 
 def _check(code: int) -> None:
+    if code == Code.NOT_OPEN:
+        raise ClosedError(code)
     if code != Code.DONE:
         raise OpalError(code)
 
@@ -308,9 +443,22 @@ def _within(number: int, most: int) -> int:
     return number
 
 
-def _bytes(data: Bytes) -> Tuple[bytes, int]:
-    data = bytes(data)
-    return data, len(data)
+def _bytes(data: Bytes) -> Tuple[Any, int]:
+    """Bytes for a call. They are copied where they can't be written and are no `bytes`, or do not stand side by side."""
+    if isinstance(data, bytes):
+        return data, len(data)
+    view = memoryview(data)  # a number has no buffer, and is a TypeError
+    if view.readonly or not view.c_contiguous:
+        return view.tobytes(), view.nbytes
+    return _room(view)
+
+
+def _room(into: Buffer) -> Tuple[Any, int]:
+    """A buffer that a call writes, as it stands."""
+    view = memoryview(into)
+    if view.readonly or not view.c_contiguous:
+        raise TypeError("a buffer that can be written, of bytes side by side, is wanted")
+    return (ctypes.c_char * view.nbytes).from_buffer(view), view.nbytes
 
 
 def _written(call: Any, *arguments: Any, room: int = 512) -> bytes:
@@ -322,6 +470,11 @@ def _written(call: Any, *arguments: Any, room: int = 512) -> bytes:
             _check(told.code)
             return buffer.raw[:told.number]
         room = told.number
+
+
+def library_version() -> str:
+    """The version of the library, as `0.2.0`, or `0.2.0 unproved` of one that was built without proofs."""
+    return _written(_LIBRARY.version_text).decode("ascii")
 
 
 def tokens_text(data: Bytes, by_name: bool = False) -> str:
@@ -337,14 +490,16 @@ def decoded_text(kind: int, data: Bytes) -> str:
 def frame(com_id: int, tsn: int, hsn: int, payload: Bytes) -> bytes:
     """A ComPacket of one packet of a session with one data subpacket."""
     words = _within(com_id, 2**16 - 1), _within(tsn, 2**32 - 1), _within(hsn, 2**32 - 1)
-    return _written(_LIBRARY.frame, *words, *_bytes(payload), room=len(payload) + 64)
+    payload, length = _bytes(payload)
+    return _written(_LIBRARY.frame, *words, payload, length, room=length + 64)
 
 
 def opened(data: Bytes) -> Carried:
     """What the frame carries that the bytes begin with."""
     told = _LIBRARY.opened(*_bytes(data))
     _check(told.code)
-    return Carried(told.com_id, told.tsn, told.hsn, bytes(data)[told.at:told.at + told.length])
+    payload = bytes(memoryview(data).cast("B")[told.at:told.at + told.length])
+    return Carried(told.com_id, told.tsn, told.hsn, payload)
 
 
 def command_fis(command: int, lba: int = 0, count: int = 1, tag: int = 0) -> bytes:
@@ -392,6 +547,32 @@ class _Object:
         if getattr(self, "_lock", None) is not None:
             self.close()
 
+    def _never_copied(self, *_: Any) -> Any:
+        raise TypeError(f"a {type(self).__name__} has one handle, which is freed once: it is not copied and not pickled")
+
+    __copy__ = __deepcopy__ = __reduce__ = __reduce_ex__ = _never_copied
+
+    def _about(self) -> Any:
+        with self._lock:
+            told = _LIBRARY.about(self._handle)
+        _check(told.code)
+        return told
+
+    @property
+    def sectors(self) -> int:
+        """The sectors of the drive."""
+        return int(self._about().sectors)
+
+    @property
+    def shadow(self) -> int:
+        """Those of them that the shadow MBR can have."""
+        return int(self._about().shadow)
+
+    @property
+    def field(self) -> bool:
+        """Whether the drive is of the profile field."""
+        return bool(self._about().profile == 1)
+
     def _number(self, call: Any, *arguments: Any) -> int:
         with self._lock:
             told = call(self._handle, *arguments)
@@ -416,6 +597,17 @@ class Drive(_Object):
         """Gives the drive the FIS of a command, with the payload that it brings."""
         return self._answer(_LIBRARY.drive_accept, *_bytes(fis), *_bytes(payload))
 
+    def accept_into(self, fis: Bytes, into: Buffer, payload: Bytes = b"") -> Answer:
+        """As `accept`, with the data put into a buffer: the answer has a view of them. Where they have no room there, the command
+        is done, and the error is `Code.ROOM`."""
+        buffer, room = _room(into)
+        with self._lock:
+            told = _LIBRARY.drive_accept(self._handle, *_bytes(fis), *_bytes(payload))
+            _check(told.code)
+            if told.length:
+                _check(_LIBRARY.drive_data(self._handle, buffer, room).code)
+        return Answer(told.status, told.error, told.held, told.denied, memoryview(into).cast("B")[:told.length])
+
     def complete(self, tag: int, payload: Bytes = b"") -> Answer:
         """Moves the data of the command that is held under a tag, and lets it go."""
         return self._answer(_LIBRARY.drive_complete, _tag(tag), *_bytes(payload))
@@ -429,7 +621,7 @@ class Drive(_Object):
         return self._number(_LIBRARY.drive_expects, _tag(tag))
 
     def reset(self, kind: int) -> None:
-        """Resets the drive: 0 is a power cycle, 1 a hardware reset."""
+        """Resets the drive (`Reset`)."""
         with self._lock:
             _check(_LIBRARY.drive_reset(self._handle, _within(kind, 2**32 - 1)))
 
@@ -480,7 +672,7 @@ class Port(_Object):
         return self._number(_LIBRARY.port_recover)
 
     def reset(self, client: int, kind: int) -> int:
-        """A client resets the port and the drive: 0 is a power cycle, 1 a hardware reset."""
+        """A client resets the port and the drive (`Reset`)."""
         return self._number(_LIBRARY.port_reset, _within(client, 2**32 - 1), _within(kind, 2**32 - 1))
 
     def take(self, client: int, tag: int) -> Taken:
@@ -514,6 +706,46 @@ class Port(_Object):
         none there."""
         with self._lock:
             return _written(_LIBRARY.port_denial, self._handle, _within(place, 2**64 - 1)).decode("ascii")
+
+
+class Hba(_Object):
+    """An AHCI controller with one port, and the drive behind it: registers, and memory of yours."""
+
+    _make = "hba_new"
+
+    def read(self, offset: int) -> int:
+        """The 32 bits at an offset of the registers; 0 where no register is."""
+        return self._number(_LIBRARY.hba_read, _within(offset, 2**32 - 1))
+
+    def write(self, offset: int, value: int) -> None:
+        """Writes 32 bits of the registers; nothing where no register is."""
+        with self._lock:
+            _check(_LIBRARY.hba_write(self._handle, _within(offset, 2**32 - 1), _within(value, 2**32 - 1)))
+
+    def interrupt(self) -> bool:
+        """The interrupt line."""
+        return self._number(_LIBRARY.hba_interrupt) != 0
+
+    def power_cycle(self) -> None:
+        """The controller and its drive lose power, and have it again."""
+        with self._lock:
+            _check(_LIBRARY.hba_power_cycle(self._handle))
+
+    def turn(self, memory: Buffer, base: int = 0, choice: int = 0) -> Worked:
+        """The controller does a work of those that are ready, the one of the number `choice`, modulo how many they are. The host's
+        memory is `memory`, from the address `base` on; it is read and written in this call alone."""
+        buffer, length = _room(memory)
+        words = _within(choice, 2**64 - 1), _within(base, 2**32 - 1)
+        with self._lock:
+            told = _LIBRARY.hba_turn(self._handle, *words, buffer, length)
+        _check(told.code)
+        return Worked(Work(told.work), told.tag, Went(told.went), told.denied)
+
+    def denial(self) -> str:
+        """The line of the audit log that tells what denied the command of the last turn, as
+        `1 0 deny read 100+1 range 1 ReadLocked`; empty where nothing did."""
+        with self._lock:
+            return _written(_LIBRARY.hba_denial, self._handle).decode("ascii")
 
 
 def _tag(tag: int) -> int:

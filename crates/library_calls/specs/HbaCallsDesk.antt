@@ -4,7 +4,7 @@ use Rattle.std.specs.declared.alloc.AllocError.{AllocError}
 use Rattle.audit.specs.AuditText.{line_text}
 use Rattle.audit.specs.declared.reason.AuditLine.{AuditLine}
 use Rattle.library_calls.specs.Refusals.{done_code}
-use Rattle.hba.specs.History.{Adds, Wrote}
+use Rattle.hba.specs.History.{Adds, Wrote, Powered}
 use Rattle.hba.specs.declared.work.Turned.{Turned}
 use Rattle.library_calls.specs.Over.{TurnsOver}
 use Rattle.library_calls.specs.Worked.{worked_tag, told_worked}
@@ -14,6 +14,12 @@ use Rattle.library_calls.specs.declared.hba_calls.worked.Worked.{Worked}
 -- The host wrote a word.
 pub record WritesHba (old new : HbaDesk) (offset value code : ℕ) : Type 0 where
   pub adds : Adds (Wrote offset value) old.hba new.hba
+  pub denied : new.denied ≡ old.denied
+  pub done : code ≡ done_code
+
+-- Power was lost, and is there again.
+pub record CyclesHba (old new : HbaDesk) (code : ℕ) : Type 0 where
+  pub adds : Adds Powered old.hba new.hba
   pub denied : new.denied ≡ old.denied
   pub done : code ≡ done_code
 

@@ -1,17 +1,20 @@
 -- A drive, as a caller from outside asks for it.
-use Rattle.std.specs.Prelude.{◌≡◌, ◌⊎◌, ◌≤◌, ℕ, ◌-◌, ◌^◌, Bool, true, not, ◌==◌, ◌&&◌, List, [], ◌∷◌, length, if◌then◌else◌, Option, Some, None, Ok, Err}
+use Rattle.std.specs.Prelude.{◌≡◌, ◌⊎◌, ◌≤◌, ℕ, ◌-◌, ◌^◌, Bool, true, false, not, nat_le, ◌==◌, ◌&&◌, ◌||◌, List, [], ◌∷◌, length, map, if◌then◌else◌, Option, Some, None, Ok, Err}
+use Rattle.std.specs.List.{list_all, list_any}
+use Rattle.basics.specs.Addresses.{address_limit}
 use Rattle.basics.specs.declared.profile.Profile.{Profile}
 use Rattle.basics.specs.declared.profile.Profile.TheVariants.{Base, Field}
 use Rattle.locking.specs.declared.range.RangeRow.{RangeRow}
-use Rattle.sp_cells.specs.Config.{Config, IsWithinLimits, AreNames, IsLabel, config_in, named_config, labelled_config, stored_config, new_serial, new_model, new_psid, new_datastore}
-use Rattle.sp_cells.specs.Limits.{most_datastore_bytes}
+use Rattle.sp_cells.specs.Config.{Config, IsWithinLimits, AreNames, IsLabel, is_printable, config_in, named_config, labelled_config, stored_config, new_serial, new_model, new_psid, new_datastore}
+use Rattle.sp_cells.specs.Limits.{most_mbr_sectors, most_datastore_bytes, most_pin_bytes, most_serial_bytes, most_model_bytes}
 use Rattle.sp_cells.specs.declared.error.SetError.{SetError}
 use Rattle.history.specs.Opening.{Origin, opened_with}
 use Rattle.drive.specs.State.{DriveState, Agrees}
 use Rattle.opalport_c.specs.declared.asked.RangeCells.{RangeCells}
 use Rattle.opalport_c.specs.declared.asked.Size.{Size}
 use Rattle.library_calls.specs.declared.byte_calls.error.CallError.{CallError}
-use Rattle.library_calls.specs.declared.byte_calls.error.CallError.TheVariants.{OutOfMemory, Limits}
+use Rattle.library_calls.specs.declared.byte_calls.error.CallError.TheVariants.{OutOfMemory}
+use Rattle.library_calls.specs.declared.byte_calls.error.CallError.TheVariants as refusals
 use Rattle.opalport_c.specs.Refused.{set_refusal}
 
 -- a number as a truth value: 0 is false
@@ -79,10 +82,60 @@ FitsProfile None size msid serial model psid = ⊥
 FitsProfile (Some Base) size msid serial model psid = FitsBase size msid serial model psid
 FitsProfile (Some Field) size msid serial model psid = FitsField size msid serial model psid
 
--- There is the drive that is asked for.
-abbrev pub CanBe : Size → List ℕ → List ℕ → List ℕ → List ℕ → Type 0
-CanBe size msid serial model psid =
-    FitsProfile (profile_asked size.profile) size msid serial model psid
+-- Two rows are of one range.
+abbrev pub is_row_of : ℕ → RangeCells → Bool
+is_row_of range cells = cells.range == range
+
+abbrev pub names_twice : List RangeCells → Bool
+names_twice [] = false
+names_twice (one ∷ rest) = list_any (is_row_of one.range) rest || names_twice rest
+
+-- There is the drive that is asked for: its settings are within their limits, and each row is of another range.
+abbrev pub CanBe : Size → List ℕ → List ℕ → List ℕ → List ℕ → List RangeCells → Type 0
+CanBe size msid serial model psid cells = (names_twice cells ≡ false)
+    × FitsProfile (profile_asked size.profile) size msid serial model psid
+
+-- whether a drive has so many sectors, and of these so many that can be shadowed; whether it has such an MSID
+abbrev pub has_sectors : ℕ → Bool
+has_sectors sectors = nat_le 1 sectors && nat_le sectors address_limit
+
+abbrev pub has_shadow : ℕ → ℕ → Bool
+has_shadow sectors shadow = nat_le shadow most_mbr_sectors && nat_le shadow sectors
+
+abbrev pub has_msid : List ℕ → Bool
+has_msid msid = nat_le 1 (length msid) && nat_le (length msid) most_pin_bytes
+
+-- whether a drive of this profile is given such a name, and such a PIN on its label; empty ones are none
+abbrev pub takes_name : Profile → ℕ → List ℕ → Bool
+takes_name Base most name = length name == 0
+takes_name Field most name = nat_le (length name) most && list_all is_printable name
+
+abbrev pub takes_label : Profile → List ℕ → Bool
+takes_label Base psid = length psid == 0
+takes_label Field psid = nat_le (length psid) most_pin_bytes
+
+-- Which setting is outside its limits, the first in this order: the rows, the profile, the sectors, the shadow, the MSID,
+-- the names, the label. Where it is none of these, it is DataStore.
+abbrev pub wrong_name : Profile → List ℕ → List ℕ → List ℕ → CallError
+wrong_name profile serial model psid = if takes_name profile most_serial_bytes serial
+    then (if takes_name profile most_model_bytes model
+    then (if takes_label profile psid then refusals.Datastore else refusals.Psid)
+    else refusals.Model) else refusals.Serial
+
+abbrev pub wrong_number : Profile → Size → List ℕ → List ℕ → List ℕ → List ℕ → CallError
+wrong_number profile size msid serial model psid = if has_sectors size.sectors
+    then (if has_shadow size.sectors size.shadow
+    then (if has_msid msid then wrong_name profile serial model psid else refusals.Msid)
+    else refusals.Shadow) else refusals.Sectors
+
+abbrev pub wrong_under : Option Profile → Size → List ℕ → List ℕ → List ℕ → List ℕ → CallError
+wrong_under None size msid serial model psid = refusals.Profile
+wrong_under (Some profile) size msid serial model psid =
+    wrong_number profile size msid serial model psid
+
+abbrev pub wrong_setting : Size → List ℕ → List ℕ → List ℕ → List ℕ → List RangeCells → CallError
+wrong_setting size msid serial model psid cells = if names_twice cells then refusals.RangeTwice
+    else wrong_under (profile_asked size.profile) size msid serial model psid
 
 -- What a drive with these rows starts from: with none it is as it leaves the factory.
 abbrev pub StartsAs : Config → List RangeRow → DriveState → Type 0
@@ -99,9 +152,18 @@ abbrev pub IsStartFault : Config → List RangeRow → CallError → Type 0
 IsStartFault config rows e = (e ≡ OutOfMemory) ⊎ IsOpeningFault config rows e
 
 -- Why the drive that is asked for is not made: there is none, or it is not made.
-abbrev pub IsMakingFault : Size → List ℕ → List ℕ → List ℕ → List ℕ → List RangeRow → CallError
+abbrev pub IsMakingFault : Size → List ℕ → List ℕ → List ℕ → List ℕ → List RangeCells → CallError
     → Type 0
-IsMakingFault size msid serial model psid rows e =
-    ((CanBe size msid serial model psid → ⊥) × (e ≡ Limits))
-    ⊎ (CanBe size msid serial model psid × ((config : Config)
-    × ConfigAsked size msid serial model psid config × IsStartFault config rows e))
+IsMakingFault size msid serial model psid cells e =
+    ((CanBe size msid serial model psid cells → ⊥)
+    × (e ≡ wrong_setting size msid serial model psid cells))
+    ⊎ (CanBe size msid serial model psid cells × ((config : Config)
+    × ConfigAsked size msid serial model psid config
+    × IsStartFault config (map row_asked cells) e))
+
+-- The drive is the one that is asked for.
+abbrev pub IsMadeAs : Size → List ℕ → List ℕ → List ℕ → List ℕ → List RangeCells → DriveState
+    → Type 0
+IsMadeAs size msid serial model psid cells drive = CanBe size msid serial model psid cells
+    × ((config : Config) × ConfigAsked size msid serial model psid config
+    × StartsAs config (map row_asked cells) drive)

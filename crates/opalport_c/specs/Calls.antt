@@ -91,6 +91,6 @@ pub record MakesDrive (had has : Option Object) (size : Size) (msid serial model
       × IsNewDesk desk × ((config : Config) × ConfigAsked size msid serial model psid config
       × StartsAs config (map row_asked cells) desk.drive)
   pub refused : code ≢ done_code → has ≡ had
-  pub can : code ≡ done_code → CanBe size msid serial model psid
+  pub can : code ≡ done_code → CanBe size msid serial model psid cells
   pub why : had ≡ None → code ≢ done_code → (error : CallError) × (code ≡ code_of_call error)
-      × IsMakingFault size msid serial model psid (map row_asked cells) error
+      × IsMakingFault size msid serial model psid cells error

@@ -11,8 +11,9 @@ use Rattle.locking.specs.declared.range.RangeRow.{RangeRow}
 use Rattle.sp_cells.specs.Config.{Config}
 use Rattle.history.specs.Opening.{Origin, opened_with}
 use Rattle.hba.specs.History.{State, AgreesHba}
+use Rattle.drive.specs.State.{DriveState, Agrees}
 use Rattle.hba.specs.Registers.{word_at, line}
-use Rattle.library_calls.specs.HbaCallsDesk.{WritesHba, TurnsDesk, denied_text}
+use Rattle.library_calls.specs.HbaCallsDesk.{WritesHba, CyclesHba, TurnsDesk, denied_text}
 use Rattle.library_calls.specs.Worked.{refused_worked}
 use Rattle.library_calls.specs.declared.hba_calls.desk.HbaDesk.{HbaDesk}
 use Rattle.library_calls.specs.declared.hba_calls.worked.Worked.{Worked}
@@ -50,6 +51,11 @@ abbrev pub WritesByHandle : Option Object → Option Object → ℕ → ℕ → 
 WritesByHandle had has offset value code = ByHba had has (λ e. code ≡ code_of_call e)
     (λ old new. WritesHba old new offset value code)
 
+-- Power was lost, and is there again.
+abbrev pub CyclesByHandle : Option Object → Option Object → ℕ → Type 0
+CyclesByHandle had has code = ByHba had has (λ e. code ≡ code_of_call e)
+    (λ old new. CyclesHba old new code)
+
 -- The controller did a turn over bytes at a base address; where it was refused they are as before.
 abbrev pub WorksByHandle : Option Object → Option Object → ℕ → ℕ → List ℕ → List ℕ → Worked
     → Type 0
@@ -67,6 +73,10 @@ abbrev pub HbaStartsAs : Config → List RangeRow → State → Type 0
 HbaStartsAs config rows hba =
     (o : Origin) × (opened_with config rows ≡ Ok o) × AgreesHba hba o []
 
+-- A controller over a drive starts from what the drive starts from.
+abbrev pub HbaOver : DriveState → State → Type 0
+HbaOver drive hba = (o : Origin) → Agrees drive o [] → AgreesHba hba o []
+
 -- A handle with nothing is given a controller that did no turn, or nothing was done.
 pub record MakesHba (had has : Option Object) (size : Size) (msid serial model psid : List ℕ)
     (cells : List RangeCells) (code : ℕ) : Type 0 where
@@ -76,6 +86,6 @@ pub record MakesHba (had has : Option Object) (size : Size) (msid serial model p
       × ConfigAsked size msid serial model psid config
       × HbaStartsAs config (map row_asked cells) desk.hba)
   pub refused : code ≢ done_code → has ≡ had
-  pub can : code ≡ done_code → CanBe size msid serial model psid
+  pub can : code ≡ done_code → CanBe size msid serial model psid cells
   pub why : had ≡ None → code ≢ done_code → (error : CallError) × (code ≡ code_of_call error)
-      × IsMakingFault size msid serial model psid (map row_asked cells) error
+      × IsMakingFault size msid serial model psid cells error

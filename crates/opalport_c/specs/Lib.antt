@@ -1,3 +1,4 @@
+pub mod About
 pub mod Answers
 pub mod Asked
 pub mod Calls
@@ -9,3 +10,4 @@ pub mod Marks
 pub mod Owned
 pub mod PortCalls
 pub mod Refused
+pub mod Version

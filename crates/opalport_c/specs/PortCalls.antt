@@ -14,6 +14,7 @@ use Rattle.port_history.specs.declared.step.Step.{Step}
 use Rattle.port_history.specs.declared.step.Step.TheVariants.{Recover}
 use Rattle.port.specs.Agreement.{PortAgrees}
 use Rattle.port.specs.State.{PortState}
+use Rattle.drive.specs.State.{DriveState, Agrees}
 use Rattle.library_calls.specs.Desk.{TakesStep, StepsUnder, PutsBy, ResetsBy, TakesUnder, TakesTurn, ListsReady}
 use Rattle.library_calls.specs.Shown.{shown_numbers, refused_shown, logged_text}
 use Rattle.library_calls.specs.PortCallsTold.{refused_take, answer_bytes}
@@ -101,6 +102,10 @@ abbrev pub PortStartsAs : Config → List RangeRow → PortState → Type 0
 PortStartsAs config rows port =
     (o : Origin) × (opened_with config rows ≡ Ok o) × PortAgrees port o []
 
+-- A port over a drive starts from what the drive starts from.
+abbrev pub PortOver : DriveState → PortState → Type 0
+PortOver drive port = (o : Origin) → Agrees drive o [] → PortAgrees port o []
+
 -- A handle with nothing is given a port of which nothing was taken yet, or nothing was done.
 pub record MakesPort (had has : Option Object) (size : Size) (msid serial model psid : List ℕ)
     (cells : List RangeCells) (code : ℕ) : Type 0 where
@@ -110,6 +115,6 @@ pub record MakesPort (had has : Option Object) (size : Size) (msid serial model 
       × ConfigAsked size msid serial model psid config
       × PortStartsAs config (map row_asked cells) desk.port)
   pub refused : code ≢ done_code → has ≡ had
-  pub can : code ≡ done_code → CanBe size msid serial model psid
+  pub can : code ≡ done_code → CanBe size msid serial model psid cells
   pub why : had ≡ None → code ≢ done_code → (error : CallError) × (code ≡ code_of_call error)
-      × IsMakingFault size msid serial model psid (map row_asked cells) error
+      × IsMakingFault size msid serial model psid cells error

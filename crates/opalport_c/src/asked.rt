@@ -2,10 +2,11 @@
 
 ghost use Rattle.std.specs.Prelude.{◌≡◌, ◌⊎◌, [], None, Some, ◌==◌, map, IfOk, IfErr, IfSome, OnOk, MatchOption, MatchResult};
 ghost use Rattle.drive.specs.State.{Agrees};
-ghost use Rattle.opalport_c.specs.Asked.{row_asked, profile_asked, bytes_or, is_bare, store_or, CanBe, ConfigAsked, StartsAs, IsStartFault};
-ghost use Rattle.library_calls.specs.declared.byte_calls.error.CallError.TheVariants.{OutOfMemory, Limits};
+ghost use Rattle.opalport_c.specs.Asked.{row_asked, profile_asked, bytes_or, is_bare, store_or, CanBe, ConfigAsked, StartsAs, IsStartFault, IsMadeAs, IsMakingFault};
+ghost use Rattle.library_calls.specs.declared.byte_calls.error.CallError.TheVariants.{OutOfMemory};
 
 use crate::refusals::of_set;
+use crate::settings::{names_twice, wrong_setting};
 use basics::Profile;
 use drive::{Drive, DriveConfig, RangeRow};
 use library_calls::byte_calls::CallError;
@@ -76,7 +77,7 @@ impl RangeCells {
 }
 
 /// The profile of a number.
-fn profile_asked(number: u32) -> Option<Profile>
+pub(crate) fn profile_asked(number: u32) -> Option<Profile>
     ensures { result ≡ profile_asked number }
 {
     match number {
@@ -117,15 +118,18 @@ fn store_or(profile: Profile, datastore: u64) -> u64
 }
 
 /// The configuration that is asked for, if there is such a drive.
-pub fn config_asked(size: &Size, names: &Names<'_>) -> Option<DriveConfig>
+pub fn config_asked(size: &Size, names: &Names<'_>, cells: &[RangeCells]) -> Option<DriveConfig>
     ensures value { IfSome result (ConfigAsked size.now names.now.msid.now names.now.serial.now
         names.now.model.now names.now.psid.now) }
     ensures limits { MatchOption result
         (CanBe size.now names.now.msid.now names.now.serial.now names.now.model.now
-        names.now.psid.now → ⊥)
+        names.now.psid.now cells.now → ⊥)
         (λ config. CanBe size.now names.now.msid.now names.now.serial.now names.now.model.now
-        names.now.psid.now) }
+        names.now.psid.now cells.now) }
 {
+    if names_twice(cells) {
+        return None;
+    }
     let profile = profile_asked(size.profile)?;
     let config = DriveConfig::of_profile(profile, size.sectors, size.shadow, names.msid)?;
     if profile == Profile::Base {
@@ -171,4 +175,28 @@ pub fn drive_asked(
         Ok(drive) => Ok(drive),
         Err(error) => Err(of_set(error)),
     }
+}
+
+/// The drive that is asked for.
+///
+/// # Errors
+///
+/// The first setting that is outside its limits ([`wrong_setting`]); those of [`drive_asked`].
+pub fn drive_made(
+    alloc: Global,
+    size: &Size,
+    names: &Names<'_>,
+    cells: &[RangeCells],
+) -> Result<Drive, CallError>
+    ensures { MatchResult result
+        (IsMadeAs size.now names.now.msid.now names.now.serial.now names.now.model.now
+        names.now.psid.now cells.now)
+        (IsMakingFault size.now names.now.msid.now names.now.serial.now names.now.model.now
+        names.now.psid.now cells.now) }
+{
+    let Some(config) = config_asked(size, names, cells) else {
+        return Err(wrong_setting(size, names, cells));
+    };
+    let drive = drive_asked(alloc, config, cells)?;
+    Ok(drive)
 }

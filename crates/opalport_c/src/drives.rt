@@ -5,19 +5,30 @@ ghost use Rattle.sp_cells.specs.Config.{Config};
 ghost use Rattle.opalport_c.specs.Asked.{CanBe, ConfigAsked, IsMakingFault, StartsAs, row_asked};
 ghost use Rattle.opalport_c.specs.Desks.{IsNewDesk};
 ghost use Rattle.opalport_c.specs.declared.drive_desk.DriveDesk.{DriveDesk};
-ghost use Rattle.opalport_c.specs.declared.object.Object.TheVariants.{Drive};
+ghost use Rattle.opalport_c.specs.declared.object.Object.TheVariants as objects;
 ghost use Rattle.opalport_c.specs.Calls.{AcceptsBy, FinishesBy, Resets, CountsPayload, CountsExpected, TellsFailure, CopiesData, CopiesDenial, MakesDrive};
 ghost use Rattle.library_calls.specs.Refusals.{done_code, code_of_call};
-ghost use Rattle.library_calls.specs.declared.byte_calls.error.CallError.TheVariants.{NotOpen};
+ghost use Rattle.library_calls.specs.declared.byte_calls.error.CallError.TheVariants.{NotOpen, OutOfMemory};
 
 use crate::answer::Answer;
-use crate::asked::{Names, RangeCells, Size, config_asked, drive_asked};
+use crate::asked::{Names, RangeCells, Size, drive_made};
 use crate::drive_desk::DriveDesk;
 use crate::failed::Failed;
 use crate::handle::Handle;
 use crate::object::Object;
+use drive::Drive;
 use library_calls::byte_calls::{CallError, Count, DONE};
 use std::alloc::Global;
+
+/// This drive, that has answered nothing. It is a call of its own for the stack that it takes, as that of a port.
+#[inline(never)]
+fn desk_over(alloc: Global, drive: Drive) -> Result<Box<Object>, CallError>
+    ensures made { IfOk result (λ object. (desk : DriveDesk)
+        × (object.value ≡ objects.Drive desk) × IsNewDesk desk × (desk.drive ≡ drive)) }
+    ensures why { IfErr result (λ e. e ≡ OutOfMemory) }
+{
+    Object::Drive(DriveDesk::new(alloc, drive)).boxed(alloc)
+}
 
 /// The drive that is asked for.
 fn desk_asked(
@@ -26,25 +37,22 @@ fn desk_asked(
     names: &Names<'_>,
     cells: &[RangeCells],
 ) -> Result<Box<Object>, CallError>
-    ensures made { IfOk result (λ object. (desk : DriveDesk) × (object.value ≡ Drive desk)
+    ensures made { IfOk result (λ object. (desk : DriveDesk) × (object.value ≡ objects.Drive desk)
         × IsNewDesk desk × ((config : Config)
         × ConfigAsked size.now names.now.msid.now names.now.serial.now
         names.now.model.now names.now.psid.now config
         × StartsAs config (map row_asked cells.now) desk.drive)) }
     ensures can { OnOk result (CanBe size.now names.now.msid.now names.now.serial.now
-        names.now.model.now names.now.psid.now) }
+        names.now.model.now names.now.psid.now cells.now) }
     ensures why { IfErr result (IsMakingFault size.now names.now.msid.now names.now.serial.now
-        names.now.model.now names.now.psid.now (map row_asked cells.now)) }
+        names.now.model.now names.now.psid.now cells.now) }
 {
-    let Some(config) = config_asked(size, names) else {
-        return Err(CallError::Limits);
-    };
-    let drive = drive_asked(alloc, config, cells)?;
-    Object::Drive(DriveDesk::new(alloc, drive)).boxed(alloc)
+    let drive = drive_made(alloc, size, names, cells)?;
+    desk_over(alloc, drive)
 }
 
 /// Makes the drive that is asked for, at a handle with nothing. It tells 0, or the number of the refusal: `InUse`,
-/// `Limits`, `NoRange`, `Overlap`, `Beyond`, want of memory. Then nothing was made.
+/// a setting that no drive has ([`drive_made`]), `NoRange`, `Overlap`, `Beyond`, want of memory. Then nothing was made.
 fn drive_new(
     handle: &mut Handle,
     alloc: Global,

@@ -6,7 +6,7 @@ ghost use Rattle.library_calls.specs.Counts.{refused_count, given_count};
 ghost use Rattle.library_calls.specs.Refusals.{code_of_call};
 ghost use Rattle.fis.specs.Bytes.{bit};
 ghost use Rattle.hba.specs.Registers.{word_at, line};
-ghost use Rattle.library_calls.specs.HbaCallsDesk.{WritesHba, TurnsDesk, denied_text};
+ghost use Rattle.library_calls.specs.HbaCallsDesk.{WritesHba, CyclesHba, TurnsDesk, denied_text};
 ghost use Rattle.library_calls.specs.Worked.{refused_worked};
 ghost use Rattle.opalport_c.specs.Calls.{WritesNone};
 ghost use Rattle.opalport_c.specs.HbaCalls.{OfHba};
@@ -35,6 +35,17 @@ impl Object {
     {
         match self {
             Object::Hba(desk) => desk.write(offset, value),
+            Object::Drive(_) | Object::Port(_) => CallError::OtherKind.code(),
+        }
+    }
+
+    /// A controller loses power, and has it again.
+    pub(crate) fn power_cycle(&mut self) -> u32
+        ensures { OfHba self.old self.new (λ e. result ≡ code_of_call e)
+            (λ d e. CyclesHba d e result) }
+    {
+        match self {
+            Object::Hba(desk) => desk.power_cycle(),
             Object::Drive(_) | Object::Port(_) => CallError::OtherKind.code(),
         }
     }

@@ -3,27 +3,28 @@
 ghost use Rattle.std.specs.Prelude.{◌≡◌, None, map, IfOk, IfErr, OnOk};
 ghost use Rattle.sp_cells.specs.Config.{Config};
 ghost use Rattle.library_calls.specs.declared.hba_calls.desk.HbaDesk.{HbaDesk};
-ghost use Rattle.opalport_c.specs.Asked.{CanBe, ConfigAsked, IsMakingFault, IsStartFault, row_asked};
-ghost use Rattle.opalport_c.specs.HbaCalls.{MakesHba, HbaStartsAs, ReadsWord, TellsInterrupt, WritesByHandle, WorksByHandle, CopiesDenied};
+ghost use Rattle.opalport_c.specs.Asked.{CanBe, ConfigAsked, IsMakingFault, row_asked};
+ghost use Rattle.opalport_c.specs.HbaCalls.{MakesHba, HbaOver, HbaStartsAs, ReadsWord, TellsInterrupt, WritesByHandle, CyclesByHandle, WorksByHandle, CopiesDenied};
 ghost use Rattle.opalport_c.specs.declared.object.Object.TheVariants as objects;
+ghost use Rattle.library_calls.specs.declared.byte_calls.error.CallError.TheVariants.{OutOfMemory};
 
-use crate::asked::{Names, RangeCells, Size, config_asked, drive_asked};
+use crate::asked::{Names, RangeCells, Size, drive_made};
 use crate::handle::Handle;
 use crate::object::Object;
-use drive::DriveConfig;
+use drive::Drive;
 use hba::Hba;
 use library_calls::byte_calls::{CallError, Count, DONE};
 use library_calls::hba_calls::{HbaDesk, Worked};
 use std::alloc::Global;
 
-/// The controller of this configuration and these cells.
-fn hba_desk(alloc: Global, config: DriveConfig, cells: &[RangeCells]) -> Result<HbaDesk, CallError>
-    ensures made { IfOk result (λ desk. (desk.denied ≡ None)
-        × HbaStartsAs config (map row_asked cells.now) desk.hba) }
-    ensures why { IfErr result (IsStartFault config (map row_asked cells.now)) }
+/// The controller over this drive. It is a call of its own for the stack that it takes, as that of a port.
+#[inline(never)]
+fn hba_over(alloc: Global, drive: Drive) -> Result<Box<Object>, CallError>
+    ensures made { IfOk result (λ object. (desk : HbaDesk) × (object.value ≡ objects.Hba desk)
+        × (desk.denied ≡ None) × HbaOver drive desk.hba) }
+    ensures why { IfErr result (λ e. e ≡ OutOfMemory) }
 {
-    let drive = drive_asked(alloc, config, cells)?;
-    Ok(HbaDesk::new(Hba::new(alloc, drive)))
+    Object::Hba(HbaDesk::new(Hba::new(alloc, drive))).boxed(alloc)
 }
 
 /// The controller that is asked for.
@@ -39,15 +40,12 @@ fn hba_asked(
         names.now.model.now names.now.psid.now config
         × HbaStartsAs config (map row_asked cells.now) desk.hba)) }
     ensures can { OnOk result (CanBe size.now names.now.msid.now names.now.serial.now
-        names.now.model.now names.now.psid.now) }
+        names.now.model.now names.now.psid.now cells.now) }
     ensures why { IfErr result (IsMakingFault size.now names.now.msid.now names.now.serial.now
-        names.now.model.now names.now.psid.now (map row_asked cells.now)) }
+        names.now.model.now names.now.psid.now cells.now) }
 {
-    let Some(config) = config_asked(size, names) else {
-        return Err(CallError::Limits);
-    };
-    let desk = hba_desk(alloc, config, cells)?;
-    Object::Hba(desk).boxed(alloc)
+    let drive = drive_made(alloc, size, names, cells)?;
+    hba_over(alloc, drive)
 }
 
 /// Makes a controller over the drive that is asked for, at a handle with nothing. It tells 0, or the number of the refusal,
@@ -125,6 +123,19 @@ pub extern "C" fn opal_raw_hba_write(
         return CallError::NotOpen.code();
     };
     let told = object.write(offset, value);
+    handle.put(object);
+    told
+}
+
+/// The controller and its drive lose power, and have it again: [`HbaDesk::power_cycle`].
+#[unsafe(no_mangle)]
+pub extern "C" fn opal_raw_hba_power_cycle(handle: &mut Handle, alloc: Global) -> u32
+    ensures { CyclesByHandle handle.old.place.kept handle.new.place.kept result }
+{
+    let Some(mut object) = handle.take(alloc) else {
+        return CallError::NotOpen.code();
+    };
+    let told = object.power_cycle();
     handle.put(object);
     told
 }

@@ -2,6 +2,7 @@
 //! `include/opalport.h` declares its exports.
 #![tactic(auto)]
 
+mod about;
 mod answer;
 mod asked;
 mod bytes;
@@ -18,9 +19,12 @@ mod place;
 mod port_object;
 mod ports;
 mod refusals;
+mod settings;
+mod version;
 
+pub use about::About;
 pub use answer::Answer;
-pub use asked::{ANY_SIZE, Names, RangeCells, Size, config_asked, drive_asked};
+pub use asked::{ANY_SIZE, Names, RangeCells, Size, config_asked, drive_asked, drive_made};
 pub use drive_desk::DriveDesk;
 pub use failed::Failed;
 pub use handle::Handle;

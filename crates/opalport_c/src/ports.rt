@@ -5,32 +5,30 @@ ghost use Rattle.sp_cells.specs.Config.{Config};
 ghost use Rattle.port_history.specs.Requests.{no_bytes};
 ghost use Rattle.port_history.specs.declared.step.Step.TheVariants as steps;
 ghost use Rattle.library_calls.specs.declared.port_calls.desk.PortDesk.{PortDesk};
-ghost use Rattle.opalport_c.specs.Asked.{CanBe, ConfigAsked, IsMakingFault, IsStartFault, row_asked};
-ghost use Rattle.opalport_c.specs.PortCalls.{MakesPort, PortStartsAs, PutsByHandle, StepsByHandle, RecoversByHandle, ResetsByHandle, TakesByHandle, TurnsByHandle, ListsByHandle, CopiesTaken, CopiesLogged, ShowsByHandle};
+ghost use Rattle.opalport_c.specs.Asked.{CanBe, ConfigAsked, IsMakingFault, row_asked};
+ghost use Rattle.opalport_c.specs.PortCalls.{MakesPort, PortOver, PortStartsAs, PutsByHandle, StepsByHandle, RecoversByHandle, ResetsByHandle, TakesByHandle, TurnsByHandle, ListsByHandle, CopiesTaken, CopiesLogged, ShowsByHandle};
 ghost use Rattle.opalport_c.specs.declared.object.Object.TheVariants as objects;
+ghost use Rattle.library_calls.specs.declared.byte_calls.error.CallError.TheVariants.{OutOfMemory};
 
-use crate::asked::{Names, RangeCells, Size, config_asked, drive_asked};
+use crate::asked::{Names, RangeCells, Size, drive_made};
 use crate::handle::Handle;
 use crate::object::Object;
-use drive::DriveConfig;
+use drive::Drive;
 use library_calls::byte_calls::{CallError, Count, DONE};
 use library_calls::port_calls::{Asked, PortDesk, ReadyStep, Shown, Taken};
 use port::Port;
 use std::alloc::Global;
 
-/// The port of this configuration and these cells.
-fn port_desk(
-    alloc: Global,
-    config: DriveConfig,
-    cells: &[RangeCells],
-) -> Result<PortDesk, CallError>
-    ensures made { IfOk result (λ desk. (desk.last ≡ no_bytes)
-        × PortStartsAs config (map row_asked cells.now) desk.port) }
-    ensures why { IfErr result (IsStartFault config (map row_asked cells.now)) }
+/// The port over this drive, of which nothing was taken yet. What it takes of the stack is large: so it is a call of its own,
+/// and not there while the drive is made.
+#[inline(never)]
+fn port_over(alloc: Global, drive: Drive) -> Result<Box<Object>, CallError>
+    ensures made { IfOk result (λ object. (desk : PortDesk) × (object.value ≡ objects.Port desk)
+        × (desk.last ≡ no_bytes) × PortOver drive desk.port) }
+    ensures why { IfErr result (λ e. e ≡ OutOfMemory) }
 {
-    let drive = drive_asked(alloc, config, cells)?;
     match Port::new(alloc, drive) {
-        Ok(port) => Ok(PortDesk::new(port)),
+        Ok(port) => Object::Port(PortDesk::new(port)).boxed(alloc),
         Err(_) => Err(CallError::OutOfMemory),
     }
 }
@@ -48,15 +46,12 @@ fn port_asked(
         names.now.model.now names.now.psid.now config
         × PortStartsAs config (map row_asked cells.now) desk.port)) }
     ensures can { OnOk result (CanBe size.now names.now.msid.now names.now.serial.now
-        names.now.model.now names.now.psid.now) }
+        names.now.model.now names.now.psid.now cells.now) }
     ensures why { IfErr result (IsMakingFault size.now names.now.msid.now names.now.serial.now
-        names.now.model.now names.now.psid.now (map row_asked cells.now)) }
+        names.now.model.now names.now.psid.now cells.now) }
 {
-    let Some(config) = config_asked(size, names) else {
-        return Err(CallError::Limits);
-    };
-    let desk = port_desk(alloc, config, cells)?;
-    Object::Port(desk).boxed(alloc)
+    let drive = drive_made(alloc, size, names, cells)?;
+    port_over(alloc, drive)
 }
 
 /// Makes a port over the drive that is asked for, at a handle with nothing. It tells 0, or the number of the refusal, as

@@ -200,7 +200,33 @@ pub struct Carried {
     pub length: usize,
 }
 
+/// What a handle has: `opal_about`.
+#[repr(C)]
+#[derive(Clone, Copy, Debug)]
+pub struct About {
+    /// 0, or why the call was refused.
+    pub code: u32,
+    /// 1 is a drive, 2 a port, 3 a controller.
+    pub kind: u8,
+    /// 0 is base, 1 is field.
+    pub profile: u8,
+    /// The sectors of the drive.
+    pub sectors: u64,
+    /// Those of them that the shadow MBR can have.
+    pub shadow: u64,
+}
+
+/// The version of the header that these declarations are of, a byte each of major, minor and patch. A library of the same
+/// major and minor fits.
+pub const VERSION: u32 = 0x0000_0200;
+
 extern "C" {
+    /// `opal_version` of the header.
+    pub fn opal_raw_version() -> u32;
+    /// `opal_version_text` of the header.
+    pub fn opal_raw_version_text(into: *mut u8, length: usize) -> Count;
+    /// `opal_about_handle` of the header.
+    pub fn opal_raw_about(handle: *mut Handle) -> About;
     /// `opal_drive_new` of the header.
     pub fn opal_raw_drive_new(
         handle: *mut Handle,
@@ -307,6 +333,8 @@ extern "C" {
     pub fn opal_raw_hba_write(handle: *mut Handle, offset: u32, value: u32) -> u32;
     /// `opal_hba_interrupt` of the header.
     pub fn opal_raw_hba_interrupt(handle: *mut Handle) -> Count;
+    /// `opal_hba_power_cycle` of the header.
+    pub fn opal_raw_hba_power_cycle(handle: *mut Handle) -> u32;
     /// `opal_hba_turn` of the header.
     pub fn opal_raw_hba_turn(handle: *mut Handle, choice: usize, base: u32, memory: *mut u8, length: usize) -> Worked;
     /// `opal_hba_denial` of the header.

@@ -1,7 +1,7 @@
 //! A self-locking drive (TCG Opal SSC 2.01) in your process: safe Rust over opalport's C library.
 //!
-//! A drive is a value, and so is a port: it is freed when it is dropped, and a call wants `&mut`, so that no two calls can
-//! meet. It may be moved to another thread. Nothing here panics on what a drive answers.
+//! A drive is a value, and so are a port and a controller: it is freed when it is dropped, and a call wants `&mut`, so that no
+//! two calls can meet. It is `Send`, and may be moved to another thread. Nothing here panics on what a drive answers.
 //!
 //! ```no_run
 //! use opalport::{command_fis, Command, Config, Drive, Range};
@@ -16,15 +16,21 @@
 //! # }
 //! ```
 //!
-//! The library is found as the crate `opalport-sys` says: by pkg-config, or in the folder that `OPALPORT_LIB` names. The
-//! feature `static` links its archive.
+//! The library is found as the crate `opalport-sys` says: by pkg-config, or in the folder that `OPALPORT_LIB` names. Its
+//! version has to fit: another one is told by [`Error::VersionDiffers`] where something is made.
+//!
+//! # Features
+//!
+//! - `static`: links the archive `libopalport.a` in place of the shared library. It is not on by default.
 
 #![warn(missing_docs)]
 
+mod hba;
 mod port;
 
 use opalport_sys as raw;
 
+pub use hba::{Hba, Went, Work, Worked};
 pub use port::{EngineStep, Port, Request, Shown, Taken};
 
 use std::fmt;
@@ -57,8 +63,6 @@ pub enum Error {
     Room,
     /// The handle has something already.
     InUse,
-    /// A drive has no such size, PIN or name.
-    Limits,
     /// There is no such range.
     NoRange,
     /// Two ranges have a sector in common.
@@ -67,6 +71,30 @@ pub enum Error {
     Beyond,
     /// Bytes are not what they are to be.
     Malformed,
+    /// A drive has 1 to 2^48 sectors.
+    Sectors,
+    /// A shadow MBR has at most 262,144 sectors, and at most all of the drive.
+    Shadow,
+    /// An MSID has 1 to 32 bytes.
+    Msid,
+    /// There is no such profile.
+    Profile,
+    /// A serial number has at most 20 characters of printable ASCII, and only with the profile field.
+    Serial,
+    /// A model number has at most 40 characters of printable ASCII, and only with the profile field.
+    Model,
+    /// A PSID has at most 32 bytes, and only with the profile field.
+    Psid,
+    /// A DataStore has at most 16,777,216 bytes, and only with the profile field.
+    Datastore,
+    /// Two rows are of one range.
+    RangeTwice,
+    /// The crate and the library are of versions that do not fit.
+    VersionDiffers,
+    /// A buffer that is written has a byte in common with another one.
+    Shared,
+    /// A pointer to a struct is not aligned.
+    Misaligned,
     /// The slot is not free.
     PortSlotBusy,
     /// The slot has no prepared command.
@@ -107,11 +135,22 @@ impl Error {
             8 => Error::NotHeld,
             9 => Error::Room,
             10 => Error::InUse,
-            11 => Error::Limits,
             12 => Error::NoRange,
             13 => Error::Overlap,
             14 => Error::Beyond,
             15 => Error::Malformed,
+            16 => Error::Sectors,
+            17 => Error::Shadow,
+            18 => Error::Msid,
+            19 => Error::Profile,
+            20 => Error::Serial,
+            21 => Error::Model,
+            22 => Error::Psid,
+            23 => Error::Datastore,
+            24 => Error::RangeTwice,
+            25 => Error::VersionDiffers,
+            26 => Error::Shared,
+            27 => Error::Misaligned,
             101 => Error::PortSlotBusy,
             102 => Error::PortNotPrepared,
             103 => Error::PortQueue,
@@ -141,11 +180,26 @@ impl fmt::Display for Error {
             Error::NotHeld => "no command is held under the tag",
             Error::Room => "the buffer is too short",
             Error::InUse => "the handle has something already",
-            Error::Limits => "a drive has no such size, PIN or name",
             Error::NoRange => "there is no such range",
             Error::Overlap => "two ranges have a sector in common",
             Error::Beyond => "a range ends beyond the drive, or the global range has a place",
             Error::Malformed => "bytes are not what they are to be",
+            Error::Sectors => "a drive has 1 to 2^48 sectors",
+            Error::Shadow => "a shadow MBR has at most 262,144 sectors, and at most all of the drive",
+            Error::Msid => "an MSID has 1 to 32 bytes",
+            Error::Profile => "there is no such profile",
+            Error::Serial => {
+                "a serial number has at most 20 characters of printable ASCII, and only with the profile field"
+            }
+            Error::Model => {
+                "a model number has at most 40 characters of printable ASCII, and only with the profile field"
+            }
+            Error::Psid => "a PSID has at most 32 bytes, and only with the profile field",
+            Error::Datastore => "a DataStore has at most 16,777,216 bytes, and only with the profile field",
+            Error::RangeTwice => "two rows are of one range",
+            Error::VersionDiffers => "the crate and the library are of versions that do not fit",
+            Error::Shared => "a buffer that is written has a byte in common with another one",
+            Error::Misaligned => "a pointer to a struct is not aligned",
             Error::PortSlotBusy => "the slot is not free",
             Error::PortNotPrepared => "the slot has no prepared command",
             Error::PortQueue => "queued and other commands would mix",
@@ -294,6 +348,32 @@ pub struct Answer {
     pub data: Vec<u8>,
 }
 
+/// What a drive answers whose data went into a buffer.
+#[derive(Clone, Copy, Debug, PartialEq, Eq)]
+pub struct Told {
+    /// 50h, or 51h with an error.
+    pub status: u8,
+    /// 04h aborted or denied, 10h beyond the drive.
+    pub error: u8,
+    /// Whether the command is held until it is completed.
+    pub held: bool,
+    /// Whether the command, or what it sent, was denied: [`Drive::denial`] tells by what.
+    pub denied: bool,
+    /// How many bytes of the buffer were written.
+    pub length: usize,
+}
+
+/// What the drive of an object is made with.
+#[derive(Clone, Copy, Debug, PartialEq, Eq)]
+pub struct About {
+    /// Its sectors.
+    pub sectors: u64,
+    /// Those of them that the shadow MBR can have.
+    pub shadow: u64,
+    /// Whether it is of the profile `field`.
+    pub field: bool,
+}
+
 /// How a queue has failed: what log page 10h tells.
 #[derive(Clone, Copy, Debug, PartialEq, Eq)]
 pub struct Failure {
@@ -340,6 +420,12 @@ fn written(room: usize, mut call: impl FnMut(*mut u8, usize) -> raw::Count) -> R
 
 fn text(bytes: Vec<u8>) -> String {
     String::from_utf8_lossy(&bytes).into_owned()
+}
+
+/// The version of the library, as `0.2.0`, or `0.2.0 unproved` of one that was built without proofs.
+pub fn library_version() -> Result<String, Error> {
+    // SAFETY: the buffer is there for the call, with its length.
+    written(64, |into, room| unsafe { raw::opal_raw_version_text(into, room) }).map(text)
 }
 
 /// The item that a token stream spells, with names or with numbers, or `malformed N NAME`.
@@ -432,6 +518,10 @@ type Make = unsafe extern "C" fn(
 
 impl Object {
     fn new(make: Make, config: &Config<'_>) -> Result<Object, Error> {
+        // SAFETY: it takes nothing.
+        if unsafe { raw::opal_raw_version() } >> 8 != raw::VERSION >> 8 {
+            return Err(Error::VersionDiffers);
+        }
         let field = config.field.unwrap_or_default();
         let size = raw::Size {
             sectors: config.sectors,
@@ -460,6 +550,13 @@ impl Object {
         };
         Error::check(code)?;
         Ok(object)
+    }
+
+    fn about(&mut self) -> Result<About, Error> {
+        // SAFETY: the handle is this object's own.
+        let told = unsafe { raw::opal_raw_about(&mut self.handle) };
+        Error::check(told.code)?;
+        Ok(About { sectors: told.sectors, shadow: told.shadow, field: told.profile == 1 })
     }
 }
 
@@ -499,6 +596,40 @@ impl Drive {
             raw::opal_raw_drive_accept(&mut self.object.handle, fis.as_ptr(), FIS_LENGTH, payload.as_ptr(), payload.len())
         };
         self.answer(told)
+    }
+
+    /// [`Drive::accept`], with the data put into a buffer. Where they have no room there, the command is done, and the error is
+    /// [`Error::Room`].
+    pub fn accept_into(&mut self, fis: &[u8; FIS_LENGTH], payload: &[u8], into: &mut [u8]) -> Result<Told, Error> {
+        // SAFETY: as in `accept`.
+        let told = unsafe {
+            raw::opal_raw_drive_accept(&mut self.object.handle, fis.as_ptr(), FIS_LENGTH, payload.as_ptr(), payload.len())
+        };
+        self.told_into(told, into)
+    }
+
+    /// [`Drive::complete`], with the data put into a buffer, as [`Drive::accept_into`] does.
+    pub fn complete_into(&mut self, tag: u8, payload: &[u8], into: &mut [u8]) -> Result<Told, Error> {
+        // SAFETY: as in `accept`.
+        let told =
+            unsafe { raw::opal_raw_drive_complete(&mut self.object.handle, tag, payload.as_ptr(), payload.len()) };
+        self.told_into(told, into)
+    }
+
+    fn told_into(&mut self, told: raw::Answer, into: &mut [u8]) -> Result<Told, Error> {
+        Error::check(told.code)?;
+        if told.length > 0 {
+            // SAFETY: the handle is this drive's own, and the buffer is there for the call.
+            let copied = unsafe { raw::opal_raw_drive_data(&mut self.object.handle, into.as_mut_ptr(), into.len()) };
+            Error::check(copied.code)?;
+        }
+        let raw::Answer { status, error, held, denied, length, .. } = told;
+        Ok(Told { status, error, held, denied, length })
+    }
+
+    /// What the drive is made with.
+    pub fn about(&mut self) -> Result<About, Error> {
+        self.object.about()
     }
 
     /// Moves the data of the command that is held under a tag, and lets it go.

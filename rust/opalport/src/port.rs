@@ -1,6 +1,6 @@
 //! One AHCI port with 32 command slots, the drive behind it, and the clients that share it.
 
-use crate::{text, written, Config, Error, Object};
+use crate::{text, written, About, Config, Error, Object};
 use opalport_sys as raw;
 
 /// What a client asks of a port. Addresses and counts are of blocks of 512 bytes.
@@ -198,6 +198,11 @@ impl Port {
         let told = unsafe { raw::opal_raw_port_ready(&mut self.object.handle, steps.as_mut_ptr(), steps.len()) };
         Error::check(told.code)?;
         Ok(steps.iter().take(told.number).map(engine_step).collect())
+    }
+
+    /// What the drive is made with.
+    pub fn about(&mut self) -> Result<About, Error> {
+        self.object.about()
     }
 
     /// What the port shows.

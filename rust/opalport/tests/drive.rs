@@ -81,7 +81,19 @@ fn what_a_caller_gets_wrong_is_an_error() {
     assert_eq!(command_fis(Command::ReadDma { lba: 1 << 48, count: 1 }), Err(Error::Number));
     assert_eq!(command_fis(Command::ReadQueued { lba: 0, count: 1, tag: 32 }), Err(Error::Tag));
     assert_eq!(opened(&[0; 56]), Err(Error::Malformed));
-    assert_eq!(Drive::new(&Config { sectors: 0, ..Config::default() }).err(), Some(Error::Limits));
+    let field = |field| Config { field: Some(field), ..Config::default() };
+    for (config, error) in [
+        (Config { sectors: 0, ..Config::default() }, Error::Sectors),
+        (Config { shadow: 1001, ..Config::default() }, Error::Shadow),
+        (Config { msid: &[], ..Config::default() }, Error::Msid),
+        (Config { ranges: &[LOCKED, LOCKED], ..Config::default() }, Error::RangeTwice),
+        (field(Field { serial: "é", ..Field::default() }), Error::Serial),
+        (field(Field { model: "x".repeat(41).as_str(), ..Field::default() }), Error::Model),
+        (field(Field { psid: &[0; 33], ..Field::default() }), Error::Psid),
+        (field(Field { datastore: Some(1 << 24 | 1), ..Field::default() }), Error::Datastore),
+    ] {
+        assert_eq!(Drive::new(&config).err(), Some(error));
+    }
     assert_eq!(Drive::new(&Config { ranges: &[LOCKED, Range { range: 2, ..LOCKED }], ..Config::default() }).err(), Some(Error::Overlap));
 }
 
@@ -91,6 +103,26 @@ fn a_field_drive_tells_its_names() {
     let mut drive = Drive::new(&Config { field, ..Config::default() }).unwrap();
     let answer = give(&mut drive, Command::Identify, &[]);
     assert!(decoded_text(Kind::Identify, &answer.data).unwrap().contains("SerialNumber \"12345"));
+}
+
+#[test]
+fn data_go_into_a_buffer() {
+    let mut drive = locked();
+    give(&mut drive, Command::WriteDma { lba: 5, count: 1 }, &[7; 512]);
+    let mut into = [0; 600];
+    let told = drive.accept_into(&command_fis(Command::ReadDma { lba: 5, count: 1 }).unwrap(), &[], &mut into).unwrap();
+    assert_eq!((told.status, told.length, &into[..512], &into[512..]), (0x50, 512, &[7; 512][..], &[0; 88][..]));
+    assert!(give(&mut drive, Command::ReadQueued { lba: 5, count: 1, tag: 3 }, &[]).held);
+    assert_eq!(drive.complete_into(3, &[], &mut into[88..]).unwrap().length, 512);
+    assert_eq!(into[599], 7);
+    assert_eq!(drive.accept_into(&command_fis(Command::ReadDma { lba: 5, count: 1 }).unwrap(), &[], &mut [0; 511]), Err(Error::Room));
+}
+
+#[test]
+fn what_is_made_is_told() {
+    let about = locked().about().unwrap();
+    assert_eq!((about.sectors, about.shadow, about.field), (1000, 8, false));
+    assert!(opalport::library_version().unwrap().starts_with(env!("CARGO_PKG_VERSION")));
 }
 
 #[test]

@@ -89,7 +89,7 @@ fn what_a_caller_gets_wrong_is_an_error() {
     port.put(1, 1, &Request::Read { lba: 0, count: 1 }).unwrap();
     port.issue(0).unwrap();
     assert_eq!(port.issue(1), Err(Error::PortQueue));
-    assert_eq!(Port::new(&Config { sectors: 0, ..Config::default() }).err(), Some(Error::Limits));
+    assert_eq!(Port::new(&Config { sectors: 0, ..Config::default() }).err(), Some(Error::Sectors));
 }
 
 #[test]

@@ -29,8 +29,6 @@ pub enum CallError {
     Room,
     /// The handle has something already.
     InUse,
-    /// A drive has no such size, PIN or name.
-    Limits,
     /// There is no such range.
     NoRange,
     /// Two ranges have a sector in common.
@@ -39,10 +37,34 @@ pub enum CallError {
     Beyond,
     /// The bytes are not what they are to be.
     Malformed,
+    /// A drive has 1 to 2^48 sectors.
+    Sectors,
+    /// The shadow MBR has at most 262,144 sectors, and at most all of the drive.
+    Shadow,
+    /// The MSID has 1 to 32 bytes.
+    Msid,
+    /// The number is that of no profile.
+    Profile,
+    /// The serial number has at most 20 characters of printable ASCII. The profile `Base` is given none, here and below.
+    Serial,
+    /// The model number has at most 40.
+    Model,
+    /// The PIN on the label has at most 32 bytes.
+    Psid,
+    /// DataStore has at most 16,777,216 bytes.
+    Datastore,
+    /// Two rows are of one range.
+    RangeTwice,
+    /// The caller was made for another version of the library. The header of the C library looks for it, before any call.
+    VersionDiffers,
+    /// A buffer that is written has a byte in common with another one, or with the handle. The header looks for it.
+    Shared,
+    /// A pointer to a struct is not aligned. The header looks for it.
+    Misaligned,
 }
 
 impl CallError {
-    /// The number of the refusal, from 1, in the order of the variants.
+    /// The number of the refusal, in the order of the variants. 11 stood for the limits of a drive before each had its own.
     pub fn code(self) -> u32
         ensures { result ≡ code_of_call self }
     {
@@ -57,11 +79,22 @@ impl CallError {
             CallError::NotHeld => 8,
             CallError::Room => 9,
             CallError::InUse => 10,
-            CallError::Limits => 11,
             CallError::NoRange => 12,
             CallError::Overlap => 13,
             CallError::Beyond => 14,
             CallError::Malformed => 15,
+            CallError::Sectors => 16,
+            CallError::Shadow => 17,
+            CallError::Msid => 18,
+            CallError::Profile => 19,
+            CallError::Serial => 20,
+            CallError::Model => 21,
+            CallError::Psid => 22,
+            CallError::Datastore => 23,
+            CallError::RangeTwice => 24,
+            CallError::VersionDiffers => 25,
+            CallError::Shared => 26,
+            CallError::Misaligned => 27,
         }
     }
 }

@@ -21,7 +21,7 @@ impl HbaDesk {
     ghost use Rattle.library_calls.specs.Counts.{given_count};
     ghost use Rattle.fis.specs.Bytes.{bit};
     ghost use Rattle.hba.specs.Registers.{word_at, line};
-    ghost use Rattle.library_calls.specs.HbaCallsDesk.{WritesHba, TurnsDesk, denied_line, denied_after, denied_text};
+    ghost use Rattle.library_calls.specs.HbaCallsDesk.{WritesHba, CyclesHba, TurnsDesk, denied_line, denied_after, denied_text};
 
     /// A controller that did no turn.
     pub fn new(hba: Hba) -> HbaDesk
@@ -43,6 +43,14 @@ impl HbaDesk {
         ensures { WritesHba self.old self.new offset value result }
     {
         self.hba.write(offset, value);
+        DONE
+    }
+
+    /// The controller and its drive lose power, and have it again. It tells 0.
+    pub fn power_cycle(&mut self) -> u32
+        ensures { CyclesHba self.old self.new result }
+    {
+        self.hba.power_cycle();
         DONE
     }
 

@@ -6,16 +6,16 @@ use Rattle.opalport_c.proofs.drives.desk_asked.Goals as goal
 
 pub returns-clause-made : goal.returns-clause-made
 returns-clause-made c =
-    IfOk-weaker c.boxed.result _ _
-    (λ object is. (
-      c.new.result,
-      is,
-      c.new.ensures.new,
+    IfOk-weaker c.desk_over.result _ _
+    (λ object over. (
+      over.0,
+      over.1,
+      over.2,
       (
-        c.in-Some.config,
-        c.in-Some.ensures.value,
-        subst (λ (d : DriveState). StartsAs c.in-Some.config (map row_asked c.args.cells.now) d)
-            (sym c.new.ensures.drive) c.in_ok-drive.ensures,
+        c.in_ok-drive.ensures.1.0,
+        c.in_ok-drive.ensures.1.1,
+        subst (λ (d : DriveState). StartsAs c.in_ok-drive.ensures.1.0 (map row_asked c.args.cells.now) d)
+            (sym over.3) c.in_ok-drive.ensures.1.2,
       ),
     ))
-    c.boxed.ensures.value
+    c.desk_over.ensures.made

@@ -1,0 +1,64 @@
+//! A controller whose drive has range 1 locked for reads, by the wrapper. The values are worked from AHCI 1.3.1 and ACS-3.
+
+use opalport::{command_fis, Command, Config, Error, Hba, Range, Went, Work, Worked};
+
+const BASE: u32 = 0x10_0000;
+const PX_CLB: u32 = 0x100;
+const PX_FB: u32 = 0x108;
+const PX_CMD: u32 = 0x118;
+const PX_TFD: u32 = 0x120;
+const PX_SERR: u32 = 0x130;
+const PX_CI: u32 = 0x138;
+
+fn hba() -> Hba {
+    let locked = Range { range: 1, start: 100, length: 10, read_lock_enabled: true, read_locked: true, ..Range::default() };
+    Hba::new(&Config { ranges: &[locked], ..Config::default() }).unwrap()
+}
+
+fn start(hba: &mut Hba, memory: &mut [u8]) {
+    for (offset, value) in [(PX_CLB, BASE), (PX_FB, BASE + 0x1000), (PX_SERR, u32::MAX), (PX_CMD, 0x11)] {
+        hba.write(offset, value).unwrap();
+    }
+    let worked = hba.turn(0, BASE, memory).unwrap();
+    assert_eq!(worked, Worked { work: Work::Signature, went: Went::Posted, denied: false });
+}
+
+/// READ DMA EXT of a sector in slot 0: a header with a FIS of five words and one descriptor, of 512 bytes at 103000h.
+fn read(hba: &mut Hba, memory: &mut [u8], lba: u64) -> Worked {
+    for (at, word) in [(0, 5 | 1 << 16), (8, BASE + 0x2000), (12, 0), (0x2080, BASE + 0x3000), (0x2084, 0), (0x208c, 511)] {
+        memory[at..at + 4].copy_from_slice(&u32::to_le_bytes(word));
+    }
+    memory[0x2000..0x2014].copy_from_slice(&command_fis(Command::ReadDma { lba, count: 1 }).unwrap());
+    hba.write(PX_CI, 1).unwrap();
+    hba.turn(0, BASE, memory).unwrap()
+}
+
+#[test]
+fn a_locked_read_is_denied_and_another_one_served() {
+    let (mut hba, mut memory) = (hba(), vec![0xff; 0x4000]);
+    start(&mut hba, &mut memory);
+    assert_eq!(read(&mut hba, &mut memory, 100), Worked { work: Work::Fetch(0), went: Went::Served, denied: true });
+    assert_eq!((hba.read(PX_TFD), memory[0x3000]), (Ok(0x0451), 0xff));
+    assert_eq!(hba.denial().unwrap(), "1 0 deny read 100+1 range 1 ReadLocked");
+    hba.power_cycle().unwrap();
+    assert_eq!((hba.read(PX_CLB), hba.read(PX_CI), hba.interrupt()), (Ok(0), Ok(0), Ok(false)));
+    start(&mut hba, &mut memory);
+    assert!(!read(&mut hba, &mut memory, 0).denied);
+    assert_eq!(memory[0x3000..0x3200], [0; 512]);
+    assert_eq!(hba.turn(0, BASE, &mut memory).unwrap().work, Work::None);
+}
+
+#[test]
+fn a_controller_tells_what_is_not_in_the_memory() {
+    let (mut hba, mut memory) = (hba(), vec![0; 0x4000]);
+    start(&mut hba, &mut memory);
+    hba.write(PX_CI, 1).unwrap();
+    assert_eq!(hba.turn(0, BASE, &mut []).unwrap().went, Went::NoList);
+}
+
+#[test]
+fn a_controller_may_move_to_another_thread() {
+    let mut hba = hba();
+    assert_eq!(std::thread::spawn(move || hba.about().map(|it| it.sectors)).join().unwrap(), Ok(1000));
+    assert_eq!(Hba::new(&Config { sectors: 0, ..Config::default() }).err(), Some(Error::Sectors));
+}
