@@ -2,6 +2,8 @@
 
 ghost use Rattle.std.specs.Prelude.{◌≡◌, ◌≤◌, ◌⊎◌, IfOk, IfErr, IfSome, OnOk, Ok, Err};
 ghost use Rattle.std.specs.Io.KnownBytes.{Appends};
+ghost use Rattle.std.specs.IoError.{error_kind};
+ghost use Rattle.std.specs.declared.io.ErrorKind.TheVariants.{OutOfMemory};
 ghost use Rattle.hex.specs.Hex.{decode_of};
 ghost use Rattle.hex.specs.declared.error.FromHexError.{FromHexError};
 ghost use Rattle.decoded.specs.Decodings.{separates, without_separators, lines_of_hex, hex_given, TextEnds, DecodeEnds};
@@ -37,7 +39,10 @@ impl From<AllocError> for DecodeError {
 }
 
 /// The error of a call that reads: its kind decides.
-fn reading_error(error: io::Error) -> DecodeError {
+fn reading_error(error: io::Error) -> DecodeError
+    ensures memory { error_kind error ≡ OutOfMemory → result ≡ DecodeError.Memory }
+    ensures read { (error_kind error ≡ OutOfMemory → ⊥) → result ≡ DecodeError.Read }
+{
     match error.kind() {
         ErrorKind::OutOfMemory => DecodeError::Memory,
         _ => DecodeError::Read,

@@ -43,7 +43,7 @@ impl RunError {
     ghost use Rattle.tool.specs.declared.ending.RunError.TheVariants.{Memory, Read};
 
     /// The error of a call that reads: its kind decides.
-    pub(crate) fn reading(error: io::Error) -> RunError
+    pub fn reading(error: io::Error) -> RunError
         ensures either { (result ≡ Memory) ⊎ (result ≡ Read) }
         ensures memory { error_kind error ≡ OutOfMemory → result ≡ Memory }
         ensures read { (error_kind error ≡ OutOfMemory → ⊥) → result ≡ Read }

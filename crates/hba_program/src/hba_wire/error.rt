@@ -28,8 +28,16 @@ impl From<AllocError> for WireError {
 }
 
 impl WireError {
+    ghost use Rattle.std.specs.Prelude.{◌≡◌};
+    ghost use Rattle.std.specs.IoError.{error_kind};
+    ghost use Rattle.std.specs.declared.io.ErrorKind.TheVariants.{OutOfMemory};
+    ghost use Rattle.hba_program.specs.declared.hba_wire.error.WireError.TheVariants.{Memory, Read};
+
     /// The error of a call that reads: its kind decides.
-    pub(crate) fn reading(error: io::Error) -> WireError {
+    pub(crate) fn reading(error: io::Error) -> WireError
+        ensures memory { error_kind error ≡ OutOfMemory → result ≡ Memory }
+        ensures read { (error_kind error ≡ OutOfMemory → ⊥) → result ≡ Read }
+    {
         match error.kind() {
             ErrorKind::OutOfMemory => WireError::Memory,
             _ => WireError::Read,

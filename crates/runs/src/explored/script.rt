@@ -1,6 +1,6 @@
 //! A script that is explored, from a reader to a writer.
 
-ghost use Rattle.std.specs.Prelude.{◌≡◌, ◌≤◌, ◌<◌, true, false, not, IfOk, IfSome, OnOk, is_some, take, drop, length};
+ghost use Rattle.std.specs.Prelude.{◌≡◌, ◌≤◌, ◌<◌, ◌-◌, true, false, not, IfOk, IfSome, OnOk, is_some, take, drop, length};
 ghost use Rattle.std.specs.List.{list_any};
 ghost use Rattle.std.specs.Io.KnownBytes.{Appends};
 ghost use Rattle.script_lines.specs.PortLines.{is_port_line};
@@ -22,18 +22,10 @@ use script_lines::named_lines::call_verb_in;
 use script_lines::{Line, PortLine, is_port_line};
 use std::alloc::{AllocError, Global};
 use std::io;
-use std::io::{ErrorKind, Read, Write};
+use std::io::{Read, Write};
 use tool::{
     Fault, Options, RunError, ScriptKind, may_hold_remarks, run_script_with_faults, write_text,
 };
-
-/// The error of a call that reads: its kind decides.
-fn reading_error(error: io::Error) -> RunError {
-    match error.kind() {
-        ErrorKind::OutOfMemory => RunError::Memory,
-        _ => RunError::Read,
-    }
-}
 
 /// All that a reader gives.
 fn whole_text<R: Read + Drop>(alloc: Global, input: R) -> Result<Vec<u8>, RunError>
@@ -41,7 +33,7 @@ fn whole_text<R: Read + Drop>(alloc: Global, input: R) -> Result<Vec<u8>, RunErr
 {
     let mut input = input;
     let mut text = Vec::new(alloc);
-    input.read_to_end(&mut text).map_err(reading_error)?;
+    input.read_to_end(&mut text).map_err(RunError::reading)?;
     Ok(text)
 }
 
@@ -130,10 +122,13 @@ fn wrong_letter(kind: ScriptKind, size: usize, lines: &[Bytes]) -> Option<(usize
     requires { size ≤ length lines.now }
     ensures some { is_some result ≡ list_any (is_wrong_letter kind) (drop size lines.now) }
     ensures within { IfSome result (λ found. found.0 < length lines.now) }
+    ensures first { IfSome result (λ found.
+        list_any (is_wrong_letter kind) (take (found.0 - size) (drop size lines.now)) ≡ false) }
 {
-    for i in size..lines.len() {
-        if let Some(fault) = letter_fault(kind, lines[i].as_slice()) {
-            return Some((i, fault));
+    let rest = &lines[size..];
+    for i in 0..rest.len() {
+        if let Some(fault) = letter_fault(kind, rest[i].as_slice()) {
+            return Some((size + i, fault));
         }
     }
     None

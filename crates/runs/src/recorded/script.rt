@@ -1,6 +1,6 @@
 //! A whole script, run from a reader to a writer, with the frames that its lines leave behind.
 
-ghost use Rattle.std.specs.Prelude.{◌≡◌, ◌≤◌, [], Ok, IfOk, OnOk};
+ghost use Rattle.std.specs.Prelude.{◌≡◌, ◌≤◌, ◌⊎◌, [], Ok, Err, IfOk, OnOk};
 ghost use Rattle.std.specs.Io.Buffered.{reader_buffer, reader_remaining};
 ghost use Rattle.std.specs.Io.KnownBytes.{Appends};
 ghost use Rattle.history.specs.Opening.{Origin};
@@ -10,6 +10,8 @@ ghost use Rattle.tool.specs.Openings.{opens_with};
 ghost use Rattle.tool.specs.Outcomes.{YieldsBy};
 ghost use Rattle.tool.specs.Progress.{HandsOn, Steps, step_or_skip};
 ghost use Rattle.tool.specs.Scripts.{IsAtHand, LeavesNobodyWaiting, may_hold_remarks, bare};
+ghost use Rattle.tool.specs.declared.ending.RunError.{RunError};
+ghost use Rattle.runs.specs.declared.recorded.error.RecordError.TheVariants.{Run};
 ghost use Rattle.runs.specs.Progress.{FrontLeads, FrontStands, HoldsMore, LinesEnd, OpenedEnds, Records, ScriptEnds, frames_made, line_at};
 
 use crate::recorded::error::RecordError;
@@ -260,12 +262,17 @@ fn hand_on_behind<W: Write, K: Recorder>(
 ) -> Result<End, RecordError>
     ensures last { report.new.last ≡ report.old.last }
     ensures is { IfOk result (λ e. end ≡ Ok e) }
+    ensures cleared { report.new.pending.items ≡ [] }
     ensures written { OnOk result (Appends (W.contents output.old) (W.contents output.new)
         report.old.pending.items) }
+    ensures told { Appends (W.contents output.old) (W.contents output.new)
+        report.old.pending.items ⊎ (result ≡ Err (Run RunError.Write)) }
     ensures keeps { OnOk result (HoldsMore [] (λ base came. K.holds base recorder.old came)
         (λ base came. K.holds base recorder.new came)) }
 {
-    report.hand_on(output).map_err(|_| RunError::Write)?;
+    if report.hand_on(output).is_err() {
+        return Err(RecordError::Run(RunError::Write));
+    }
     recorder.hand_on()?;
     end
 }
