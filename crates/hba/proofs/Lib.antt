@@ -12,4 +12,5 @@ pub mod BitsOfWords
 pub mod BitByBit
 pub mod RaisedBits
 pub mod QueuedBits
+pub mod LinkBits
 mod Rows
