@@ -13,4 +13,5 @@ pub mod BitByBit
 pub mod RaisedBits
 pub mod QueuedBits
 pub mod LinkBits
+pub mod OwnWrites
 mod Rows

@@ -3,6 +3,7 @@
 ghost use Rattle.hba.specs.Blocks.{BlocksLaw, read_setup, write_setup};
 ghost use Rattle.hba.specs.BitLaws.{RunningLaw, IssuedLaw, QueuedLaw, RaisedLaw, ErrorsLaw, ChangesLaw};
 ghost use Rattle.hba.specs.Laws.{HostFailureLaw, HostDenialLaw, ActiveLaw, CurrentLaw};
+ghost use Rattle.hba.specs.Writes.{WritesLaw};
 
 /// Laws of the definitions, over every origin and every list of operations.
 ///
@@ -48,4 +49,11 @@ pub fn laws_of_bits()
     ensures raised { RaisedLaw }
     ensures errors { ErrorsLaw }
     ensures changes { ChangesLaw }
+{}
+
+/// The law of writes, over every drive, list of operations and answers of memory: a piece of work writes nothing but parts
+/// of blocks that descriptors name which it read just before, PRDBC of its slot's header, and received FISes in their places
+/// at PxFB, while FRE is set.
+pub fn laws_of_writes()
+    ensures { WritesLaw }
 {}
