@@ -12,6 +12,8 @@ pub mod BitsOfWords
 pub mod BitByBit
 pub mod RaisedBits
 pub mod QueuedBits
+pub mod LinkBits
+pub mod OwnWrites
 pub mod SoftwareResets
 mod Rows
 mod RowsSoftwareReset

@@ -1,6 +1,6 @@
 -- Laws of single bits, over every list of operations, the newest first: each bit of PxCI, PxSACT and PxIS
 -- that a driver reads is what set it, and what cleared it, since (AHCI 1.3.1, 3.3.5, 3.3.13 and 3.3.14).
-use Rattle.std.specs.Prelude.{◌≡◌, ℕ, ◌<◌, ◌-◌, ◌^◌, ◌%◌, ◌==◌, ◌&&◌, ◌||◌, not, nat_le, Bool, false, List, [], ◌∷◌, Option, Some, None, if◌then◌else◌}
+use Rattle.std.specs.Prelude.{◌≡◌, ℕ, ◌+◌, bit_or, ◌<◌, ◌-◌, ◌^◌, ◌%◌, ◌==◌, ◌&&◌, ◌||◌, not, nat_le, Bool, true, false, List, [], ◌∷◌, Option, Some, None, if◌then◌else◌}
 use Rattle.std.specs.Int.{bit_at}
 use Rattle.fis.specs.Tags.{slot_count}
 use Rattle.fis.specs.declared.any.Fis.{Fis}
@@ -13,7 +13,7 @@ use Rattle.history.specs.Opening.{Origin}
 use Rattle.port_history.specs.Registers.{is_finished, register_bit, pio_setup_bit, dma_setup_bit, device_bits_bit, task_error_bit}
 use Rattle.host_memory.specs.declared.hba_memory.miss.Miss.{Miss}
 use Rattle.host_memory.specs.declared.hba_memory.delivery.Arrival.{Arrival}
-use Rattle.hba.specs.Registers.{word_at, port_at, reset_bit, processed_bit, overflow_bit}
+use Rattle.hba.specs.Registers.{word_at, port_at, is_up, reset_bit, exchange_bit, phy_error_bit, change_bit, phy_change_bit, processed_bit, overflow_bit}
 use Rattle.hba.specs.Showing.{shows_fises, bits_of}
 use Rattle.hba.specs.History.{Operation, Wrote, Powered, Signed, Missed, Controlled, Asserted, Restarted, Unheard, Fetched, Completed, account, regs_of, effect_after}
 
@@ -234,3 +234,71 @@ abbrev pub QueuedLaw : Type 0
 QueuedLaw =
     (o : Origin) (list : List Operation) (tag : ℕ) → AreOfWords list → tag < slot_count
     → word_has (word_at (regs_of o list) 0x134) tag ≡ queued_since o tag list
+
+-- The link is up by PxSCTL.DET, as it was written last since a reset (3.3.11).
+abbrev pub link_after : ℕ → Bool → Register → Bool
+link_after value before at.SataControl = is_up value
+link_after value before register = before
+
+abbrev pub linked : List Operation → Bool
+linked [] = true
+linked (Wrote offset value ∷ before) =
+    by_write (link_after value (linked before)) true (linked before) offset value
+linked (Powered ∷ before) = true
+linked (Signed ∷ before) = linked before
+linked (Missed fetched miss ∷ before) = linked before
+linked (Controlled tag ∷ before) = linked before
+linked (Fetched tag fis payload arrival ∷ before) = linked before
+linked (Completed tag payload arrival ∷ before) = linked before
+
+-- PxSERR.DIAG.X (3.3.12): the link has come up since a 1 was written to it; DIAG.N: it has come up or gone
+-- down. After a reset it has come up.
+abbrev pub exchange_after : ℕ → Bool → Bool → Register → Bool
+exchange_after value up before at.SataError = before && not (has_bits value exchange_bit)
+exchange_after value up before at.SataControl = before || not up && is_up value
+exchange_after value up before register = before
+
+abbrev pub link_came_up : List Operation → Bool
+link_came_up [] = true
+link_came_up (Wrote offset value ∷ before) =
+    by_write (exchange_after value (linked before) (link_came_up before)) true (link_came_up before)
+    offset value
+link_came_up (Powered ∷ before) = true
+link_came_up (Signed ∷ before) = link_came_up before
+link_came_up (Missed fetched miss ∷ before) = link_came_up before
+link_came_up (Controlled tag ∷ before) = link_came_up before
+link_came_up (Fetched tag fis payload arrival ∷ before) = link_came_up before
+link_came_up (Completed tag payload arrival ∷ before) = link_came_up before
+
+abbrev pub phy_after : ℕ → Bool → Bool → Register → Bool
+phy_after value up before at.SataError = before && not (has_bits value phy_error_bit)
+phy_after value up before at.SataControl =
+    before || up && not (is_up value) || not up && is_up value
+phy_after value up before register = before
+
+abbrev pub link_changed : List Operation → Bool
+link_changed [] = true
+link_changed (Wrote offset value ∷ before) =
+    by_write (phy_after value (linked before) (link_changed before)) true (link_changed before)
+    offset value
+link_changed (Powered ∷ before) = true
+link_changed (Signed ∷ before) = link_changed before
+link_changed (Missed fetched miss ∷ before) = link_changed before
+link_changed (Controlled tag ∷ before) = link_changed before
+link_changed (Fetched tag fis payload arrival ∷ before) = link_changed before
+link_changed (Completed tag payload arrival ∷ before) = link_changed before
+
+-- PxSERR has these two bits and no other, and PxIS has PCS and PRCS with them (3.3.5).
+abbrev pub ErrorsLaw : Type 0
+ErrorsLaw =
+    (o : Origin) (list : List Operation)
+    → word_at (regs_of o list) 0x130
+    ≡ (if link_came_up list then exchange_bit else 0)
+    + (if link_changed list then phy_error_bit else 0)
+
+abbrev pub ChangesLaw : Type 0
+ChangesLaw =
+    (o : Origin) (list : List Operation)
+    → word_at (regs_of o list) 0x110
+    ≡ bit_or (bit_or (regs_of o list).port.interrupts (if link_came_up list then change_bit else 0))
+    (if link_changed list then phy_change_bit else 0)

@@ -7,3 +7,4 @@ pub mod Ready
 pub mod Engine
 pub mod Laws
 pub mod BitLaws
+pub mod Writes

@@ -1,8 +1,9 @@
 //! What follows from the definitions alone.
 
 ghost use Rattle.hba.specs.Blocks.{BlocksLaw, read_setup, write_setup};
-ghost use Rattle.hba.specs.BitLaws.{RunningLaw, IssuedLaw, QueuedLaw, RaisedLaw};
+ghost use Rattle.hba.specs.BitLaws.{RunningLaw, IssuedLaw, QueuedLaw, RaisedLaw, ErrorsLaw, ChangesLaw};
 ghost use Rattle.hba.specs.Laws.{HostFailureLaw, HostDenialLaw, ActiveLaw, CurrentLaw};
+ghost use Rattle.hba.specs.Writes.{WritesLaw};
 
 /// Laws of the definitions, over every origin and every list of operations.
 ///
@@ -38,10 +39,21 @@ pub fn laws_of_blocks()
 /// `running`: ST of PxCMD is as it was written last since a reset. `issued`: PxCI has the bit of a slot exactly if its
 /// command was issued while ST was 1, and since then none of these came: a FIS of the device that ends it, ST 0, a reset.
 /// `queued`: so it is of PxSACT, which Set Device Bits FISes end. `raised`: PxIS has a bit exactly if a FIS, data or a fault
-/// of memory raised it since a 1 was written to it and a reset came; PCS and PRCS follow PxSERR.
+/// of memory raised it since a 1 was written to it and a reset came. `errors`: PxSERR has DIAG.X exactly if the link has
+/// come up, and DIAG.N exactly if it has come up or gone down, since a 1 was written to it; a reset brings it up.
+/// `changes`: PCS and PRCS of PxIS are 1 with them.
 pub fn laws_of_bits()
     ensures running { RunningLaw }
     ensures issued { IssuedLaw }
     ensures queued { QueuedLaw }
     ensures raised { RaisedLaw }
+    ensures errors { ErrorsLaw }
+    ensures changes { ChangesLaw }
+{}
+
+/// The law of writes, over every drive, list of operations and answers of memory: a piece of work writes nothing but parts
+/// of blocks that descriptors name which it read just before, PRDBC of its slot's header, and received FISes in their places
+/// at PxFB, while FRE is set.
+pub fn laws_of_writes()
+    ensures { WritesLaw }
 {}

@@ -2,6 +2,7 @@
 use Rattle.hba.proofs.BitByBit.{running_law, issued_law}
 use Rattle.hba.proofs.QueuedBits.{queued_law}
 use Rattle.hba.proofs.RaisedBits.{raised_law}
+use Rattle.hba.proofs.LinkBits.{errors_law, changes_law}
 use Rattle.hba.proofs.laws.laws_of_bits.Goals as goal
 
 pub returns-clause-running : goal.returns-clause-running
@@ -15,3 +16,9 @@ returns-clause-queued c = queued_law
 
 pub returns-clause-raised : goal.returns-clause-raised
 returns-clause-raised c = raised_law
+
+pub returns-clause-errors : goal.returns-clause-errors
+returns-clause-errors c = errors_law
+
+pub returns-clause-changes : goal.returns-clause-changes
+returns-clause-changes c = changes_law
