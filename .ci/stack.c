@@ -29,6 +29,7 @@ static void *port_new(void *it) { code = opal_port_new(&handle, &config); return
 static void *hba_new(void *it) { code = opal_hba_new(&handle, &config); return it; }
 static void *frees(void *it) { code = opal_free(&handle); return it; }
 static void *about(void *it) { code = opal_about_handle(&handle).code; return it; }
+static void *media(void *it) { code = opal_media(&handle, 100, text, sizeof text).code; return it; }
 static void *version(void *it) { code = opal_version_text(text, sizeof text).code; return it; }
 static void *frame(void *it) { code = opal_frame(OPAL_COM_ID, 0, 0, start_session, sizeof start_session, block, sizeof block).code; return it; }
 static void *opened(void *it) { code = opal_opened(block, sizeof block).code; return it; }
@@ -128,7 +129,7 @@ int main(void)
     memset(many, 0xf0, sizeof many);
     least = taken(nothing);
     RUN(version), RUN(tokens);
-    MAKE(drive_new), RUN(about);
+    MAKE(drive_new), RUN(about), RUN(media);
     RUN(frame), RUN(opened), RUN(send_fis), RUN(send_block), RUN(receive_fis), RUN(accepts), RUN(data);
     RUN(read_fis), RUN(decoded), RUN(payload), RUN(accepts), RUN(expects), RUN(completes), RUN(denial), RUN(failure), RUN(reset);
     RUN(frees);

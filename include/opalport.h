@@ -346,6 +346,7 @@ typedef struct opal_raw_size {
 uint32_t opal_raw_version(void);
 opal_count opal_raw_version_text(uint8_t *into, size_t length);
 opal_about opal_raw_about(opal_handle *handle);
+opal_count opal_raw_media(opal_handle *handle, uint64_t lba, uint8_t *into, size_t length);
 
 opal_code opal_raw_drive_new(opal_handle *handle, opal_raw_size size, const uint8_t *msid, size_t msid_length,
                              const uint8_t *serial, size_t serial_length, const uint8_t *model, size_t model_length,
@@ -492,8 +493,9 @@ static inline opal_code opal_raw_new(opal_raw_make *make, opal_handle *handle, c
         fault = opal_raw_asked(config);
     if (fault != OPAL_DONE)
         return fault;
-    opal_raw_size size = { config->sectors, config->shadow, config->has_datastore != 0 ? config->datastore : UINT64_MAX,
-                           config->profile };
+    opal_raw_size size = { config->sectors, config->shadow, UINT64_MAX, config->profile };
+    if (config->has_datastore != 0) /* the largest number stands for none that is asked for, and no drive has the one below it */
+        size.datastore = config->datastore == UINT64_MAX ? UINT64_MAX - 1 : config->datastore;
     return make(handle, size, opal_raw_at(config->msid), config->msid_length, opal_raw_at(config->serial),
                 config->serial_length, opal_raw_at(config->model), config->model_length, opal_raw_at(config->psid),
                 config->psid_length, (const opal_range *)(const void *)opal_raw_at(config->ranges), config->range_count);
@@ -536,6 +538,15 @@ OPAL_MUST_USE static inline opal_about opal_about_handle(const opal_handle *hand
 {
     opal_about refused = { opal_raw_of(handle), 0, 0, 0, 0 };
     return refused.code != OPAL_DONE ? refused : opal_raw_about((opal_handle *)handle);
+}
+
+/* Copies the 512 bytes of a sector as the media of the drive hold them, whatever is locked or shadowed: a look for a test, and no
+   act of the drive. It takes a handle of any kind. Refused: OPAL_NULL, OPAL_MISALIGNED, OPAL_SHARED, OPAL_LENGTH, OPAL_NOT_OPEN,
+   OPAL_NUMBER beyond the drive, OPAL_ROOM. */
+OPAL_MUST_USE static inline opal_count opal_media(const opal_handle *handle, uint64_t lba, void *into, size_t length)
+{
+    opal_count refused = { opal_raw_into(handle, into, length), 0 };
+    return refused.code != OPAL_DONE ? refused : opal_raw_media((opal_handle *)handle, lba, opal_raw_at(into), length);
 }
 
 /* What follows are the calls of a drive. All can be refused with OPAL_NULL, OPAL_MISALIGNED, OPAL_NOT_OPEN and OPAL_OTHER_KIND;

@@ -111,6 +111,9 @@ static void unlocked(void)
     must(answer.code == OPAL_DONE && answer.length == SECTOR, "the read gives no sector");
     must(opal_drive_data(&drive, read, sizeof read).code == OPAL_DONE, "no data");
     must(memcmp(read, written, sizeof read) == 0, "another sector was read");
+    memset(read, 0, sizeof read);
+    must(opal_media(&drive, 100, read, sizeof read).code == OPAL_DONE && memcmp(read, written, sizeof read) == 0,
+         "the media hold another sector");
     tell("READ FPDMA QUEUED of 100", answer);
 }
 

@@ -70,6 +70,8 @@ static void settings(void)
     config.has_datastore = true;
     config.datastore = 16777217;
     ask("a DataStore of 16,777,217 bytes", &config);
+    config.datastore = UINT64_MAX;
+    must(opal_drive_new(&drive, &config) == OPAL_DATASTORE, "the largest number is a DataStore");
     config.datastore = 0;
     must(opal_drive_new(&drive, &config) == OPAL_DONE && opal_free(&drive) == OPAL_DONE, "the largest names do not fit");
 }
@@ -111,6 +113,9 @@ static void pointers(void)
     tell("a null buffer", opal_drive_data(&drive, NULL, 1).code);
     must(opal_frame(OPAL_COM_ID, 1, 2, bytes, 2, bytes + 2, sizeof bytes - 2).code == OPAL_DONE, "a frame beside its payload");
     must(opal_drive_data(&drive, NULL, 0).code == OPAL_DONE, "a null buffer of no byte");
+    must(opal_media(&drive, 999, bytes, sizeof bytes).number == OPAL_SECTOR_BYTES && bytes[0] == 0, "no look at sector 999");
+    tell("a look at sector 1000", opal_media(&drive, 1000, bytes, sizeof bytes).code);
+    tell("a look with room for 511 bytes", opal_media(&drive, 0, bytes, 511).code);
 }
 
 int main(void)

@@ -123,7 +123,7 @@ class OnADrive(unittest.TestCase):
                               (Code.MSID, {"msid": b""}), (Code.MSID, {"msid": bytes(33)}), (Code.SERIAL, {"serial": "1"}),
                               (Code.SERIAL, {"field": True, "serial": "x" * 21}), (Code.MODEL, {"field": True, "model": "\n"}),
                               (Code.PSID, {"psid": b"1"}), (Code.PSID, {"field": True, "psid": bytes(33)}),
-                              (Code.DATASTORE, {"datastore": 1}), (Code.DATASTORE, {"field": True, "datastore": 2**24 + 1})):
+                              (Code.DATASTORE, {"datastore": 1}), (Code.DATASTORE, {"field": True, "datastore": 2**64 - 1})):
             with self.assertRaises(OpalError) as it:
                 make(**options)
             self.assertEqual(it.exception.code, code)
@@ -137,6 +137,9 @@ class OnADrive(unittest.TestCase):
         self.assertEqual((self.drive.sectors, self.drive.shadow, self.drive.field), (1000, 8, False))
         with Drive(sectors=2048, shadow=0, field=True) as drive:
             self.assertEqual((drive.sectors, drive.shadow, drive.field), (2048, 0, True))
+        self.drive.accept(command_fis(Command.WRITE_DMA, 99), b"\x07" * SECTOR)
+        self.assertEqual((self.drive.media(99), self.drive.media(100)), (b"\x07" * SECTOR, bytes(SECTOR)))
+        self.refuses(Code.NUMBER, self.drive.media, 1000)
         self.assertEqual(library_version().split(" ")[0].count("."), 2)
 
     def test_buffers_are_taken_as_they_are(self):

@@ -366,6 +366,7 @@ _CALLS = {
     "version": (ctypes.c_uint32, []),
     "version_text": (_Count, _BYTES),
     "about": (_About, _HANDLE),
+    "media": (_Count, [*_HANDLE, ctypes.c_uint64, *_BYTES]),
     "drive_new": (ctypes.c_uint32, _MAKE),
     "free": (ctypes.c_uint32, _HANDLE),
     "drive_accept": (_Answer, [*_HANDLE, *_BYTES, *_BYTES]),
@@ -524,7 +525,7 @@ class _Object:
                  datastore: Optional[int] = None) -> None:
         self._handle, self._lock = _Handle(), threading.RLock()
         rows = (_Range * len(ranges))(*(_row(it) for it in ranges))
-        store = ANY_SIZE if datastore is None else _within(datastore, ANY_SIZE)
+        store = ANY_SIZE if datastore is None else min(_within(datastore, ANY_SIZE), ANY_SIZE - 1)
         size = _Size(_within(sectors, 2**64 - 1), _within(shadow, 2**64 - 1), store, 1 if field else 0)
         texts = _bytes(serial.encode("utf-8")), _bytes(model.encode("utf-8"))
         make = getattr(_LIBRARY, self._make)
@@ -572,6 +573,11 @@ class _Object:
     def field(self) -> bool:
         """Whether the drive is of the profile field."""
         return bool(self._about().profile == 1)
+
+    def media(self, lba: int) -> bytes:
+        """The 512 bytes of a sector as the media hold them, whatever is locked or shadowed: a look for a test, and no act."""
+        with self._lock:
+            return _written(_LIBRARY.media, self._handle, _within(lba, 2**64 - 1))
 
     def _number(self, call: Any, *arguments: Any) -> int:
         with self._lock:

@@ -7,6 +7,7 @@ pub mod Desks
 pub mod Failures
 pub mod HbaCalls
 pub mod Marks
+pub mod Media
 pub mod Owned
 pub mod PortCalls
 pub mod Refused

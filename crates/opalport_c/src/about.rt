@@ -83,7 +83,7 @@ impl Object {
     }
 
     /// The drive, or the drive behind it.
-    fn drive(&self) -> &Drive
+    pub(crate) fn drive(&self) -> &Drive
         ensures { result.now ≡ drive_of self.now }
     {
         match self {

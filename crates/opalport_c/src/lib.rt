@@ -13,6 +13,7 @@ mod failed;
 mod handle;
 mod hba_object;
 mod hbas;
+mod media;
 mod object;
 mod parts;
 mod place;

@@ -227,6 +227,8 @@ extern "C" {
     pub fn opal_raw_version_text(into: *mut u8, length: usize) -> Count;
     /// `opal_about_handle` of the header.
     pub fn opal_raw_about(handle: *mut Handle) -> About;
+    /// `opal_media` of the header.
+    pub fn opal_raw_media(handle: *mut Handle, lba: u64, into: *mut u8, length: usize) -> Count;
     /// `opal_drive_new` of the header.
     pub fn opal_raw_drive_new(
         handle: *mut Handle,

@@ -120,4 +120,9 @@ impl Hba {
     pub fn about(&mut self) -> Result<About, Error> {
         self.object.about()
     }
+
+    /// The 512 bytes of a sector as the media hold them, whatever is locked or shadowed: a look for a test, and no act.
+    pub fn media(&mut self, lba: u64) -> Result<Vec<u8>, Error> {
+        self.object.media(lba)
+    }
 }

@@ -526,7 +526,7 @@ impl Object {
         let size = raw::Size {
             sectors: config.sectors,
             shadow: config.shadow,
-            datastore: field.datastore.unwrap_or(u64::MAX),
+            datastore: field.datastore.map_or(u64::MAX, |bytes| bytes.min(u64::MAX - 1)),
             profile: config.field.is_some().into(),
         };
         let cells: Vec<raw::RangeCells> = config.ranges.iter().map(cells_of).collect();
@@ -557,6 +557,11 @@ impl Object {
         let told = unsafe { raw::opal_raw_about(&mut self.handle) };
         Error::check(told.code)?;
         Ok(About { sectors: told.sectors, shadow: told.shadow, field: told.profile == 1 })
+    }
+
+    fn media(&mut self, lba: u64) -> Result<Vec<u8>, Error> {
+        // SAFETY: the handle is this object's own, and the buffer is there for the call.
+        written(512, |into, room| unsafe { raw::opal_raw_media(&mut self.handle, lba, into, room) })
     }
 }
 
@@ -630,6 +635,11 @@ impl Drive {
     /// What the drive is made with.
     pub fn about(&mut self) -> Result<About, Error> {
         self.object.about()
+    }
+
+    /// The 512 bytes of a sector as the media hold them, whatever is locked or shadowed: a look for a test, and no act.
+    pub fn media(&mut self, lba: u64) -> Result<Vec<u8>, Error> {
+        self.object.media(lba)
     }
 
     /// Moves the data of the command that is held under a tag, and lets it go.

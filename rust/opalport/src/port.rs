@@ -205,6 +205,11 @@ impl Port {
         self.object.about()
     }
 
+    /// The 512 bytes of a sector as the media hold them, whatever is locked or shadowed: a look for a test, and no act.
+    pub fn media(&mut self, lba: u64) -> Result<Vec<u8>, Error> {
+        self.object.media(lba)
+    }
+
     /// What the port shows.
     pub fn shown(&mut self) -> Result<Shown, Error> {
         // SAFETY: as in `issue`.

@@ -122,6 +122,9 @@ fn data_go_into_a_buffer() {
 fn what_is_made_is_told() {
     let about = locked().about().unwrap();
     assert_eq!((about.sectors, about.shadow, about.field), (1000, 8, false));
+    let mut drive = locked();
+    give(&mut drive, Command::WriteDma { lba: 99, count: 1 }, &[7; 512]);
+    assert_eq!((drive.media(99), drive.media(100), drive.media(1000)), (Ok(vec![7; 512]), Ok(vec![0; 512]), Err(Error::Number)));
     assert!(opalport::library_version().unwrap().starts_with(env!("CARGO_PKG_VERSION")));
 }
 
