@@ -16,7 +16,7 @@ use Rattle.port_history.specs.Registers.{raised, with_task, task_error_bit, carr
 use Rattle.hba.specs.declared.registers.Registers.{Registers}
 use Rattle.hba.specs.Registers.{is_up, port_at, reset_bit, enable_bit, override_bit, control_bits, exchange_bit, phy_error_bit, change_bit, phy_change_bit, kept, optioned, overridden, stopped_if, lost_if, found_if, goes_down, comes_up, noted, port_written, port_written_of, after_hba_reset, written_at}
 use Rattle.hba.specs.Showing.{served, moved, fetching}
-use Rattle.hba.specs.History.{Operation, Wrote, Powered, Signed, Missed, Controlled, Fetched, Completed, account, regs_of, effect_after}
+use Rattle.hba.specs.History.{Operation, Wrote, Powered, Signed, Missed, Controlled, Asserted, Restarted, Unheard, Fetched, Completed, account, regs_of, effect_after}
 use Rattle.hba.specs.BitLaws.{at_register, by_write, link_after, linked, exchange_after, link_came_up, phy_after, link_changed, ErrorsLaw, ChangesLaw}
 use Rattle.hba.proofs.BitByBit.{or_false}
 
@@ -168,6 +168,9 @@ linked_law o (Powered ∷ before) = refl
 linked_law o (Signed ∷ before) = linked_law o before
 linked_law o (Missed fetched miss ∷ before) = linked_law o before
 linked_law o (Controlled tag ∷ before) = linked_law o before
+linked_law o (Asserted tag ∷ before) = linked_law o before
+linked_law o (Restarted tag ∷ before) = linked_law o before
+linked_law o (Unheard tag ∷ before) = linked_law o before
 linked_law o (Fetched tag fis payload arrival ∷ before) =
     ap is_up (served_control arrival.missed tag (effect_after o (account o before) (Accept fis payload)).fises
     (moved arrival (fetching tag (regs_of o before))))
@@ -275,6 +278,9 @@ exchanged_law o (Powered ∷ before) = refl
 exchanged_law o (Signed ∷ before) = exchanged_law o before
 exchanged_law o (Missed fetched miss ∷ before) = exchanged_law o before
 exchanged_law o (Controlled tag ∷ before) = exchanged_law o before
+exchanged_law o (Asserted tag ∷ before) = exchanged_law o before
+exchanged_law o (Restarted tag ∷ before) = exchanged_law o before
+exchanged_law o (Unheard tag ∷ before) = exchanged_law o before
 exchanged_law o (Fetched tag fis payload arrival ∷ before) =
     (served_errors arrival.missed tag (effect_after o (account o before) (Accept fis payload)).fises
     (moved arrival (fetching tag (regs_of o before)))).0
@@ -296,6 +302,9 @@ changed_law o (Powered ∷ before) = refl
 changed_law o (Signed ∷ before) = changed_law o before
 changed_law o (Missed fetched miss ∷ before) = changed_law o before
 changed_law o (Controlled tag ∷ before) = changed_law o before
+changed_law o (Asserted tag ∷ before) = changed_law o before
+changed_law o (Restarted tag ∷ before) = changed_law o before
+changed_law o (Unheard tag ∷ before) = changed_law o before
 changed_law o (Fetched tag fis payload arrival ∷ before) =
     (served_errors arrival.missed tag (effect_after o (account o before) (Accept fis payload)).fises
     (moved arrival (fetching tag (regs_of o before)))).1

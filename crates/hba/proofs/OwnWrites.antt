@@ -17,7 +17,8 @@ use Rattle.host_memory.specs.declared.hba_memory.delivery.Place.{Place}
 use Rattle.host_memory.specs.Memory.{data_len, descriptors_of, header_by, data_taken, written_by, ending, moved_by, Scatters, TakesNext, TakesEntry, TakesBlock, Counts, CountsIf, Posts, PostsOne, PostsTo, After, EndsBy, Delivers}
 use Rattle.hba.specs.declared.work.Work.TheVariants as works
 use Rattle.hba.specs.History.{Operation, Fetched, Completed, Account, account, effect_after}
-use Rattle.hba.specs.Engine.{header_at, fises_at, signature_fis, place_of, Acts, ServesSo, FetchesIf, FetchesFis, FetchesFrom, CompletesFrom, wanted_after}
+use Rattle.hba.specs.SoftwareReset.{resets_behind}
+use Rattle.hba.specs.Engine.{header_at, fises_at, signature_fis, place_of, Acts, ServesSo, ControlsTo, HearsIf, FetchesIf, FetchesFis, FetchesFrom, CompletesFrom, wanted_after}
 use Rattle.hba.specs.Writes.{IsByteCount, IsReceivedFis, IsOfBlock, WritesOwn, WritesLaw}
 use Rattle.hba.proofs.Turns.{gathers_reads}
 
@@ -166,11 +167,24 @@ serves_own o a place n fetched act operation talk done s =
 abbrev Own : Account → ℕ → Option (List ℕ) → List Access → Type 0
 Own a tag entry talk = WritesOwn (Some (header_at a.registers tag)) (fises_at a.registers) entry talk
 
+controls_own : (sets was : Bool) (a : Account) (tag : ℕ) (talk : List Access) (done : Operation)
+    → ControlsTo sets was a tag talk done → Own a tag None talk
+controls_own true was a tag talk done h = none_own (Some (header_at a.registers tag)) (fises_at a.registers) None talk h.0
+controls_own false true a tag talk done h =
+    posts_to_own (Some (header_at a.registers tag)) (fises_at a.registers) (signature_fis ∷ []) talk h.0 h.1
+controls_own false false a tag talk done h = none_own (Some (header_at a.registers tag)) (fises_at a.registers) None talk h.0
+
+hears_own : (in_reset : Bool) (o : Origin) (a : Account) (tag : ℕ) (header : Header) (fis : List ℕ) (talk : List Access)
+    (done : Operation) → HearsIf in_reset o a (place_of a.registers tag header) tag fis talk done → Own a tag None talk
+hears_own true o a tag header fis talk done h = none_own (Some (header_at a.registers tag)) (fises_at a.registers) None talk h.0
+hears_own false o a tag header fis talk done h =
+    serves_own o a (place_of a.registers tag header) (payload_of o.tables.config fis) (Some tag) (Accept fis) (Fetched tag fis) talk done h
+
 if_own : (is : Bool) (o : Origin) (a : Account) (tag : ℕ) (header : Header) (fis : List ℕ) (talk : List Access)
     (done : Operation) → FetchesIf is o a (place_of a.registers tag header) tag fis talk done → Own a tag None talk
-if_own false o a tag header fis talk done h = none_own (Some (header_at a.registers tag)) (fises_at a.registers) None talk h.0
-if_own true o a tag header fis talk done h =
-    serves_own o a (place_of a.registers tag header) (payload_of o.tables.config fis) (Some tag) (Accept fis) (Fetched tag fis) talk done h
+if_own false o a tag header fis talk done h =
+    controls_own (resets_behind a.registers.in_reset fis) a.registers.in_reset a tag talk done h
+if_own true o a tag header fis talk done h = hears_own a.registers.in_reset o a tag header fis talk done h
 
 fis_own : (o : Origin) (a : Account) (tag : ℕ) (header : Header) (fis : Option (List ℕ)) (talk : List Access)
     (done : Operation) → FetchesFis o a (place_of a.registers tag header) tag fis talk done → Own a tag None talk

@@ -248,6 +248,9 @@ linked (Powered ∷ before) = true
 linked (Signed ∷ before) = linked before
 linked (Missed fetched miss ∷ before) = linked before
 linked (Controlled tag ∷ before) = linked before
+linked (Asserted tag ∷ before) = linked before
+linked (Restarted tag ∷ before) = linked before
+linked (Unheard tag ∷ before) = linked before
 linked (Fetched tag fis payload arrival ∷ before) = linked before
 linked (Completed tag payload arrival ∷ before) = linked before
 
@@ -267,6 +270,9 @@ link_came_up (Powered ∷ before) = true
 link_came_up (Signed ∷ before) = link_came_up before
 link_came_up (Missed fetched miss ∷ before) = link_came_up before
 link_came_up (Controlled tag ∷ before) = link_came_up before
+link_came_up (Asserted tag ∷ before) = link_came_up before
+link_came_up (Restarted tag ∷ before) = link_came_up before
+link_came_up (Unheard tag ∷ before) = link_came_up before
 link_came_up (Fetched tag fis payload arrival ∷ before) = link_came_up before
 link_came_up (Completed tag payload arrival ∷ before) = link_came_up before
 
@@ -285,6 +291,9 @@ link_changed (Powered ∷ before) = true
 link_changed (Signed ∷ before) = link_changed before
 link_changed (Missed fetched miss ∷ before) = link_changed before
 link_changed (Controlled tag ∷ before) = link_changed before
+link_changed (Asserted tag ∷ before) = link_changed before
+link_changed (Restarted tag ∷ before) = link_changed before
+link_changed (Unheard tag ∷ before) = link_changed before
 link_changed (Fetched tag fis payload arrival ∷ before) = link_changed before
 link_changed (Completed tag payload arrival ∷ before) = link_changed before
 

@@ -6,7 +6,7 @@ use Rattle.fis.specs.declared.any.Fis.TheVariants as fises
 use Rattle.fis.specs.declared.pio_setup.PioSetup.{PioSetup}
 use Rattle.hba_regs.specs.Registers.{Regs}
 use Rattle.history.specs.Answers.{busy, ready}
-use Rattle.history.specs.History.{Act, Accept, Complete, Reset}
+use Rattle.history.specs.History.{Act, Accept, Complete, Reset, SoftwareReset, SoftwareReset}
 use Rattle.port_history.specs.Registers.{shown, all_shown}
 use Rattle.port_history.specs.Steps.{Effect}
 
@@ -39,6 +39,7 @@ by_blocks (Accept fis payload) effect = record effect {
 }
 by_blocks (Complete tag payload) effect = effect
 by_blocks (Reset kind) effect = effect
+by_blocks SoftwareReset effect = effect
 
 -- The FISes of this drive: to the host, and to the device.
 abbrev pub read_setup : PioSetup → PioSetup
