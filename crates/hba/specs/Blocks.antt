@@ -6,7 +6,7 @@ use Rattle.fis.specs.declared.any.Fis.TheVariants as fises
 use Rattle.fis.specs.declared.pio_setup.PioSetup.{PioSetup}
 use Rattle.hba_regs.specs.Registers.{Regs}
 use Rattle.history.specs.Answers.{busy, ready}
-use Rattle.history.specs.History.{Act, Accept, Complete, Reset, SoftwareReset, SoftwareReset}
+use Rattle.history.specs.History.{Act, Accept, Complete, Reset, SoftwareReset}
 use Rattle.port_history.specs.Registers.{shown, all_shown}
 use Rattle.port_history.specs.Steps.{Effect}
 
