@@ -7,17 +7,17 @@ use Rattle.fis.specs.declared.any.Fis.{Fis}
 use Rattle.fis.specs.declared.any.Fis.TheVariants as fises
 use Rattle.hba_regs.specs.declared.register.Register.{Register}
 use Rattle.hba_regs.specs.declared.register.Register.TheVariants as at
-use Rattle.hba_regs.specs.Registers.{Regs, register_at, has_bits, start_bit, run_if}
+use Rattle.hba_regs.specs.Registers.{Regs, register_at, has_bits, start_bit, run_if, disk_signature}
 use Rattle.history.specs.History.{Accept, Complete}
 use Rattle.history.specs.Opening.{Origin}
 use Rattle.host_memory.specs.declared.hba_memory.miss.Miss.{Miss}
 use Rattle.host_memory.specs.declared.hba_memory.miss.Miss.TheVariants as misses
 use Rattle.port_history.specs.Registers.{raised, with_task, task_error_bit, carried, no_more_issued, shown, all_shown, is_finished, register_bit, pio_setup_bit, dma_setup_bit, device_bits_bit}
 use Rattle.hba.specs.declared.registers.Registers.{Registers}
-use Rattle.hba.specs.Registers.{is_up, port_at, reset_bit, enable_bit, override_bit, control_bits, exchange_bit, phy_error_bit, change_bit, phy_change_bit, kept, optioned, overridden, stopped_if, lost_if, found_if, goes_down, comes_up, noted, port_written, port_written_of, after_hba_reset, written_at}
+use Rattle.hba.specs.Registers.{is_up, port_at, reset_bit, enable_bit, override_bit, control_bits, exchange_bit, phy_error_bit, change_bit, phy_change_bit, kept, optioned, overridden, stopped_if, lost_if, found_if, goes_down, comes_up, noted, port_written, port_written_of, after_hba_reset, written_at, no_signature}
 use Rattle.hba.specs.Showing.{served, moved, fetching}
 use Rattle.hba.specs.History.{Operation, Wrote, Powered, Signed, Missed, Controlled, Asserted, Restarted, Unheard, Fetched, Completed, account, regs_of, effect_after}
-use Rattle.hba.specs.BitLaws.{at_register, by_write, link_after, linked, exchange_after, link_came_up, phy_after, link_changed, ErrorsLaw, ChangesLaw}
+use Rattle.hba.specs.BitLaws.{at_register, by_write, link_after, linked, exchange_after, link_came_up, phy_after, link_changed, ErrorsLaw, ChangesLaw, signature_after, signature_told, SignatureLaw}
 use Rattle.hba.proofs.BitByBit.{or_false}
 
 abbrev enabled_as : Bool → Registers → Registers
@@ -327,3 +327,80 @@ changes_law o list =
     (if (regs_of o list).has_phy_changed then phy_change_bit else 0)) (exchanged_law o list)
     ∙ ap (λ (b : Bool). bit_or (bit_or told (if link_came_up list then change_bit else 0)) (if b then phy_change_bit else 0))
     (changed_law o list)
+
+-- PxSIG.
+abbrev has_signed : Registers → Bool
+has_signed regs = regs.is_signed
+
+command_signed : (stops asked : Bool) (regs : Registers)
+    → (stopped_if stops (overridden asked regs)).is_signed ≡ regs.is_signed
+command_signed true true regs = refl
+command_signed true false regs = refl
+command_signed false true regs = refl
+command_signed false false regs = refl
+
+link_signed : (comes goes : Bool) (regs : Registers)
+    → (found_if comes (lost_if goes regs)).is_signed ≡ (not goes && regs.is_signed)
+link_signed true true regs = refl
+link_signed true false regs = refl
+link_signed false true regs = refl
+link_signed false false regs = refl
+
+port_signed : (value : ℕ) (regs : Registers) (register : Register)
+    → has_signed (port_written regs register value)
+    ≡ signature_after value (is_linked regs) regs.is_signed register
+port_signed value regs at.ListBase = refl
+port_signed value regs at.ListBaseUpper = refl
+port_signed value regs at.FisBase = refl
+port_signed value regs at.FisBaseUpper = refl
+port_signed value regs at.InterruptStatus = refl
+port_signed value regs at.InterruptEnable = refl
+port_signed value regs at.Command =
+    command_signed (not (has_bits value start_bit)) (has_bits value override_bit)
+    (optioned value (kept regs at.Command value))
+port_signed value regs at.TaskFile = refl
+port_signed value regs at.Signature = refl
+port_signed value regs at.SataStatus = refl
+port_signed value regs at.SataControl =
+    link_signed (comes_up regs value) (goes_down regs value)
+    (kept regs at.SataControl (bit_and value control_bits))
+port_signed value regs at.SataError = refl
+port_signed value regs at.Active = refl
+port_signed value regs at.Issue = refl
+
+served_signed : (missed : Option Miss) (tag : ℕ) (list : List Fis) (regs : Registers)
+    → (served tag list missed regs).is_signed ≡ regs.is_signed
+served_signed None tag list regs = refl
+served_signed (Some misses.List) tag list regs = refl
+served_signed (Some misses.Table) tag list regs = refl
+served_signed (Some misses.Block) tag list regs = refl
+served_signed (Some misses.Overflow) tag list regs = refl
+served_signed (Some misses.Fis) tag list regs = refl
+
+signed_law : (o : Origin) (list : List Operation) → (regs_of o list).is_signed ≡ signature_told list
+signed_law o [] = refl
+signed_law o (Wrote offset value ∷ before) =
+    let regs = regs_of o before in
+    field_so has_signed (signature_after value (is_linked regs) regs.is_signed) false regs offset value
+    (λ other. refl) (port_signed value regs) refl (λ b. refl) (λ b. refl)
+    ∙ ap (λ (b : Bool). by_write (signature_after value b regs.is_signed) false regs.is_signed offset value) (linked_law o before)
+    ∙ ap (λ (b : Bool). by_write (signature_after value (linked before) b) false b offset value) (signed_law o before)
+signed_law o (Powered ∷ before) = refl
+signed_law o (Signed ∷ before) = refl
+signed_law o (Missed fetched miss ∷ before) = signed_law o before
+signed_law o (Controlled tag ∷ before) = signed_law o before
+signed_law o (Asserted tag ∷ before) = signed_law o before
+signed_law o (Restarted tag ∷ before) = refl
+signed_law o (Unheard tag ∷ before) = signed_law o before
+signed_law o (Fetched tag fis payload arrival ∷ before) =
+    served_signed arrival.missed tag (effect_after o (account o before) (Accept fis payload)).fises
+    (moved arrival (fetching tag (regs_of o before)))
+    ∙ signed_law o before
+signed_law o (Completed tag payload arrival ∷ before) =
+    served_signed arrival.missed tag (effect_after o (account o before) (Complete tag payload)).fises
+    (moved arrival (regs_of o before))
+    ∙ signed_law o before
+
+pub signature_law : SignatureLaw
+signature_law o list =
+    ap (λ (b : Bool). if b then disk_signature else no_signature) (signed_law o list)

@@ -7,13 +7,13 @@ use Rattle.fis.specs.declared.any.Fis.{Fis}
 use Rattle.fis.specs.declared.any.Fis.TheVariants as fises
 use Rattle.hba_regs.specs.declared.register.Register.{Register}
 use Rattle.hba_regs.specs.declared.register.Register.TheVariants as at
-use Rattle.hba_regs.specs.Registers.{register_at, has_bits, start_bit}
+use Rattle.hba_regs.specs.Registers.{register_at, has_bits, start_bit, disk_signature}
 use Rattle.history.specs.History.{Accept, Complete}
 use Rattle.history.specs.Opening.{Origin}
 use Rattle.port_history.specs.Registers.{is_finished, register_bit, pio_setup_bit, dma_setup_bit, device_bits_bit, task_error_bit}
 use Rattle.host_memory.specs.declared.hba_memory.miss.Miss.{Miss}
 use Rattle.host_memory.specs.declared.hba_memory.delivery.Arrival.{Arrival}
-use Rattle.hba.specs.Registers.{word_at, port_at, is_up, reset_bit, exchange_bit, phy_error_bit, change_bit, phy_change_bit, processed_bit, overflow_bit}
+use Rattle.hba.specs.Registers.{word_at, port_at, is_up, reset_bit, no_signature, exchange_bit, phy_error_bit, change_bit, phy_change_bit, processed_bit, overflow_bit}
 use Rattle.hba.specs.Showing.{shows_fises, bits_of}
 use Rattle.hba.specs.History.{Operation, Wrote, Powered, Signed, Missed, Controlled, Asserted, Restarted, Unheard, Fetched, Completed, account, regs_of, effect_after}
 
@@ -311,3 +311,30 @@ ChangesLaw =
     → word_at (regs_of o list) 0x110
     ≡ bit_or (bit_or (regs_of o list).port.interrupts (if link_came_up list then change_bit else 0))
     (if link_changed list then phy_change_bit else 0)
+
+-- The device has told its signature since the link went down, and since a reset (3.3.9).
+abbrev pub signature_after : ℕ → Bool → Bool → Register → Bool
+signature_after value up before at.SataControl = not (up && not (is_up value)) && before
+signature_after value up before register = before
+
+abbrev pub signature_told : List Operation → Bool
+signature_told [] = false
+signature_told (Wrote offset value ∷ before) =
+    by_write (signature_after value (linked before) (signature_told before)) false
+    (signature_told before) offset value
+signature_told (Powered ∷ before) = false
+signature_told (Signed ∷ before) = true
+signature_told (Missed fetched miss ∷ before) = signature_told before
+signature_told (Controlled tag ∷ before) = signature_told before
+signature_told (Asserted tag ∷ before) = signature_told before
+signature_told (Restarted tag ∷ before) = true
+signature_told (Unheard tag ∷ before) = signature_told before
+signature_told (Fetched tag fis payload arrival ∷ before) = signature_told before
+signature_told (Completed tag payload arrival ∷ before) = signature_told before
+
+-- PxSIG has the signature of a disk exactly then.
+abbrev pub SignatureLaw : Type 0
+SignatureLaw =
+    (o : Origin) (list : List Operation)
+    → word_at (regs_of o list) 0x124
+    ≡ (if signature_told list then disk_signature else no_signature)

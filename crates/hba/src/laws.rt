@@ -1,7 +1,7 @@
 //! What follows from the definitions alone.
 
 ghost use Rattle.hba.specs.Blocks.{BlocksLaw, read_setup, write_setup};
-ghost use Rattle.hba.specs.BitLaws.{RunningLaw, IssuedLaw, QueuedLaw, RaisedLaw, ErrorsLaw, ChangesLaw};
+ghost use Rattle.hba.specs.BitLaws.{RunningLaw, IssuedLaw, QueuedLaw, RaisedLaw, ErrorsLaw, ChangesLaw, SignatureLaw};
 ghost use Rattle.hba.specs.Laws.{HostFailureLaw, HostDenialLaw, ActiveLaw, CurrentLaw};
 ghost use Rattle.hba.specs.Writes.{WritesLaw};
 
@@ -41,7 +41,8 @@ pub fn laws_of_blocks()
 /// `queued`: so it is of PxSACT, which Set Device Bits FISes end. `raised`: PxIS has a bit exactly if a FIS, data or a fault
 /// of memory raised it since a 1 was written to it and a reset came. `errors`: PxSERR has DIAG.X exactly if the link has
 /// come up, and DIAG.N exactly if it has come up or gone down, since a 1 was written to it; a reset brings it up.
-/// `changes`: PCS and PRCS of PxIS are 1 with them.
+/// `changes`: PCS and PRCS of PxIS are 1 with them. `signature`: PxSIG is that of a disk exactly if the device has told it
+/// since the link went down and since a reset.
 pub fn laws_of_bits()
     ensures running { RunningLaw }
     ensures issued { IssuedLaw }
@@ -49,6 +50,7 @@ pub fn laws_of_bits()
     ensures raised { RaisedLaw }
     ensures errors { ErrorsLaw }
     ensures changes { ChangesLaw }
+    ensures signature { SignatureLaw }
 {}
 
 /// The law of writes, over every drive, list of operations and answers of memory: a piece of work writes nothing but parts

@@ -2,7 +2,7 @@
 use Rattle.hba.proofs.BitByBit.{running_law, issued_law}
 use Rattle.hba.proofs.QueuedBits.{queued_law}
 use Rattle.hba.proofs.RaisedBits.{raised_law}
-use Rattle.hba.proofs.LinkBits.{errors_law, changes_law}
+use Rattle.hba.proofs.LinkBits.{errors_law, changes_law, signature_law}
 use Rattle.hba.proofs.laws.laws_of_bits.Goals as goal
 
 pub returns-clause-running : goal.returns-clause-running
@@ -22,3 +22,6 @@ returns-clause-errors c = errors_law
 
 pub returns-clause-changes : goal.returns-clause-changes
 returns-clause-changes c = changes_law
+
+pub returns-clause-signature : goal.returns-clause-signature
+returns-clause-signature c = signature_law
