@@ -60,7 +60,9 @@ short_capacity sectors = if nat_le sectors 0xfffffff then sectors else 0xfffffff
 
 -- Word 0: an ATA device. 49: addresses by LBA, transfers by DMA, IORDY. 53: words 64 to 70 and 88 are there. 63 to 68:
 -- the modes of transfers by DMA and PIO, with 120 ns a cycle. 76: native queuing, and three speeds. 80: ATA/ATAPI-4 to
--- ACS-3. 88: Ultra DMA up to mode 6, which is chosen.
+-- ACS-3. 83 and 86: both flushes of a cache (bits 12 and 13) and addresses of 48 bits (bit 10) are supported, and so they
+-- are enabled. 84 and 87: so are the general purpose logs (bit 5). Bit 14 of 83, 84 and 87 says that they are valid. 88:
+-- Ultra DMA up to mode 6, which is chosen.
 abbrev pub driver_word : ℕ → ℕ → ℕ
 driver_word sectors word =
     if word == 0 then 0x0040
@@ -73,7 +75,11 @@ driver_word sectors word =
     else (if is_between 65 68 word then 120
     else (if word == 76 then 0x010e
     else (if word == 80 then 0x07f0
-    else (if word == 88 then 0x407f else identify_word sectors word))))))))))
+    else (if word == 83 then 0x7400
+    else (if word == 84 then 0x4020
+    else (if word == 86 then 0x3400
+    else (if word == 87 then 0x4020
+    else (if word == 88 then 0x407f else identify_word sectors word))))))))))))))
 
 abbrev pub field_word : Config → ℕ → ℕ
 field_word config word =

@@ -113,6 +113,10 @@ fn driver_word(sectors: u64, word: u16) -> u16
         65..=68 => 120,
         76 => 0x010e,
         80 => 0x07f0,
+        83 => 0x7400,
+        84 => 0x4020,
+        86 => 0x3400,
+        87 => 0x4020,
         88 => 0x407f,
         _ => identify_word(sectors, word),
     }
