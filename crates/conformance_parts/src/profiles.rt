@@ -62,12 +62,17 @@ fn are_short() -> bool {
 
 /// Commands that the base profile has in no spelling.
 fn are_further() -> bool {
+    let feature = Feature::TransferMode { mode: 0x46 };
+    let security = LogPages::IdentifyData { first: 6, count: 1 };
     let log = Command::ReadLog {
-        page: DevicePage::Security,
+        pages: security,
         dma: true,
     };
-    is_added(&SET_FEATURES, Command::SetFeatures, CommandError::Unknown)
-        && is_added(&SECURITY, log, CommandError::LogPage)
+    is_added(
+        &SET_FEATURES,
+        Command::SetFeatures { feature },
+        CommandError::Unknown,
+    ) && is_added(&SECURITY, log, CommandError::LogPage)
 }
 
 #[test]

@@ -21,5 +21,13 @@ flat_next f n =
     ∙ flat_map-append f (run_from 0 n) (n ∷ [])
     ∙ ap (λ xs. flat_map f (run_from 0 n) ++ xs) (one f n)
 
+-- from any number on
+pub flat_next_from : (f : ℕ → List ℕ) (first n : ℕ) → flat_map f (run_from first (n + 1)) ≡ flat_map f (run_from first n) ++ f (first + n)
+flat_next_from f first n =
+    ap (λ k. flat_map f (run_from first k)) (add-one n)
+    ∙ ap (flat_map f) (run_next first n)
+    ∙ flat_map-append f (run_from first n) ((first + n) ∷ [])
+    ∙ ap (λ xs. flat_map f (run_from first n) ++ xs) (one f (first + n))
+
 pub sum_next : (s b rest : ℕ) → (s + (b + rest)) % 256 ≡ ((s + b) % 256 + rest) % 256
 sum_next s b rest = ap (λ k. k % 256) (omega arith) ∙ sym (mod-add-mod (s + b) 256 rest)

@@ -4,6 +4,8 @@ use Rattle.std.specs.List.{flat_map}
 use Rattle.basics.specs.declared.profile.Profile.{Profile}
 use Rattle.basics.specs.declared.profile.Profile.TheVariants.{Base, Field}
 use Rattle.sp_cells.specs.Config.{Config}
+use Rattle.trusted_cmds.specs.Profiles.{is_multiword, is_ultra}
+use Rattle.device_data.specs.declared.settings.Settings.{Settings}
 
 -- Words 100 to 103: how many sectors there are, the low word first.
 abbrev pub sectors_word : ℕ → ℕ → ℕ
@@ -58,11 +60,11 @@ name_word serial model word =
 abbrev pub short_capacity : ℕ → ℕ
 short_capacity sectors = if nat_le sectors 0xfffffff then sectors else 0xfffffff
 
--- Word 0: an ATA device. 49: addresses by LBA, transfers by DMA, IORDY. 53: words 64 to 70 and 88 are there. 63 to 68:
--- the modes of transfers by DMA and PIO, with 120 ns a cycle. 76: native queuing, and three speeds. 80: ATA/ATAPI-4 to
--- ACS-3. 83 and 86: both flushes of a cache (bits 12 and 13) and addresses of 48 bits (bit 10) are supported, and so they
--- are enabled. 84 and 87: so are the general purpose logs (bit 5). Bit 14 of 83, 84 and 87 says that they are valid. 88:
--- Ultra DMA up to mode 6, which is chosen.
+-- Word 0: an ATA device. 49: addresses by LBA, transfers by DMA, IORDY. 53: words 64 to 70 and 88 are there. 64: PIO modes
+-- 3 and 4. 65 to 68: 120 ns a cycle. 76: native queuing, and three speeds. 80: ATA/ATAPI-4 to ACS-3. 82: a write cache
+-- (bit 5) and read look-ahead (bit 6). 83 and 86: both flushes of a cache (bits 12 and 13) and addresses of 48 bits (bit 10)
+-- are supported, and so they are enabled. 84 and 87: so are the general purpose logs (bit 5). Bit 14 of 83, 84 and 87 says
+-- that they are valid.
 abbrev pub driver_word : ℕ → ℕ → ℕ
 driver_word sectors word =
     if word == 0 then 0x0040
@@ -70,26 +72,47 @@ driver_word sectors word =
     else (if word == 53 then 0x0006
     else (if word == 60 then short_capacity sectors % 65536
     else (if word == 61 then short_capacity sectors / 65536
-    else (if word == 63 then 0x0007
     else (if word == 64 then 0x0003
     else (if is_between 65 68 word then 120
     else (if word == 76 then 0x010e
     else (if word == 80 then 0x07f0
+    else (if word == 82 then 0x0060
     else (if word == 83 then 0x7400
     else (if word == 84 then 0x4020
     else (if word == 86 then 0x3400
-    else (if word == 87 then 0x4020
-    else (if word == 88 then 0x407f else identify_word sectors word))))))))))))))
+    else (if word == 87 then 0x4020 else identify_word sectors word)))))))))))))
 
-abbrev pub field_word : Config → ℕ → ℕ
-field_word config word =
+-- The bit of a mode in the upper byte of a word, where a mode of its kind is chosen.
+abbrev pub mode_bit : Bool → ℕ → ℕ
+mode_bit is mode = if is then 2 ^ (8 + mode % 16) else 0
+
+abbrev pub bit_if : Bool → ℕ → ℕ
+bit_if is bit = if is then bit else 0
+
+-- Word 63: multiword DMA modes 0 to 2, and which of them is chosen; 88: Ultra DMA modes 0 to 6, and which of them is. 85: the
+-- write cache (bit 5) and read look-ahead (bit 6) are enabled.
+abbrev pub settings_word : Settings → ℕ → ℕ
+settings_word settings word =
+    if word == 63
+    then 0x0007 + mode_bit (is_multiword settings.transfer_mode) settings.transfer_mode
+    else (if word == 85
+    then bit_if settings.write_cache 0x20 + bit_if settings.read_look_ahead 0x40
+    else 0x007f + mode_bit (is_ultra settings.transfer_mode) settings.transfer_mode)
+
+abbrev pub is_of_settings : ℕ → Bool
+is_of_settings word = word == 63 || word == 85 || word == 88
+
+abbrev pub field_word : Config → Settings → ℕ → ℕ
+field_word config settings word =
     if has_text word then name_word config.serial config.model word
-    else driver_word config.sectors word
+    else (if is_of_settings word then settings_word settings word
+    else driver_word config.sectors word)
 
-abbrev pub identity_in : Profile → Config → List ℕ
-identity_in Base config = identity config.sectors
-identity_in Field config = flat_map (λ word. low_first (field_word config word)) (run_from 0 256)
+abbrev pub identity_in : Profile → Config → Settings → List ℕ
+identity_in Base config settings = identity config.sectors
+identity_in Field config settings =
+    flat_map (λ word. low_first (field_word config settings word)) (run_from 0 256)
 
--- What a drive answers, by its configuration.
-abbrev pub identity_of : Config → List ℕ
-identity_of config = identity_in config.profile config
+-- What a drive answers, by its configuration and what a host has chosen.
+abbrev pub identity_of : Config → Settings → List ℕ
+identity_of config settings = identity_in config.profile config settings

@@ -3,3 +3,4 @@ pub mod Identity
 pub mod ErrorLog
 pub mod DevicePages
 pub mod Protocols
+pub mod Settings

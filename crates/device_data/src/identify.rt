@@ -1,12 +1,14 @@
 //! IDENTIFY DEVICE (ACS-3, IDENTIFY DEVICE data).
 
-ghost use Rattle.std.specs.Prelude.{◌≡◌, ◌≤◌, ◌<◌, IfOk, true, slice_index_or};
+ghost use Rattle.std.specs.Prelude.{◌≡◌, ◌≤◌, ◌<◌, ◌%◌, IfOk, true, slice_index_or};
 ghost use Rattle.basics.specs.declared.profile.Profile.TheVariants.{Field};
-ghost use Rattle.device_data.specs.Identity.{sectors_word, identify_word, identity, text_word, is_between, firmware, has_text, name_word, short_capacity, driver_word, field_word, identity_in, identity_of};
+ghost use Rattle.device_data.specs.Identity.{sectors_word, identify_word, identity, text_word, is_between, firmware, has_text, name_word, short_capacity, driver_word, mode_bit, settings_word, is_of_settings, field_word, identity_in, identity_of};
 
+use crate::settings::Settings;
 use basics::Profile;
 use sp_cells::DriveConfig;
 use std::alloc::{AllocError, Global};
+use trusted_cmds::{is_multiword, is_ultra};
 
 /// How many words an answer to IDENTIFY DEVICE has.
 const WORDS: u16 = 256;
@@ -108,50 +110,84 @@ fn driver_word(sectors: u64, word: u16) -> u16
         53 => 0x0006,
         60 => (short_capacity(sectors) % 65_536) as u16,
         61 => (short_capacity(sectors) / 65_536) as u16,
-        63 => 0x0007,
         64 => 0x0003,
         65..=68 => 120,
         76 => 0x010e,
         80 => 0x07f0,
+        82 => 0x0060,
         83 => 0x7400,
         84 => 0x4020,
         86 => 0x3400,
         87 => 0x4020,
-        88 => 0x407f,
         _ => identify_word(sectors, word),
     }
 }
 
+/// The bit of a mode in the upper byte of a word, where a mode of its kind is chosen.
+fn mode_bit(is: bool, mode: u8) -> u16
+    requires { is ≡ true → mode % 16 < 8 }
+    ensures { result ≡ mode_bit is mode }
+{
+    if is { 1 << (8 + mode % 16) } else { 0 }
+}
+
+/// A word that tells what a host has chosen.
+fn settings_word(settings: &Settings, word: u16) -> u16
+    requires { is_of_settings word ≡ true }
+    ensures { result ≡ settings_word settings.now word }
+{
+    let mode = settings.transfer_mode;
+    match word {
+        63 => 0x0007 + mode_bit(is_multiword(mode), mode),
+        85 => {
+            let cache = if settings.write_cache { 0x20 } else { 0 };
+            let look_ahead = if settings.read_look_ahead { 0x40 } else { 0 };
+            cache + look_ahead
+        }
+        _ => 0x007f + mode_bit(is_ultra(mode), mode),
+    }
+}
+
 /// A word of the answer under `Field`.
-fn field_word(config: &DriveConfig, word: u16) -> u16
-    ensures { result ≡ field_word config.now word }
+fn field_word(config: &DriveConfig, settings: &Settings, word: u16) -> u16
+    ensures { result ≡ field_word config.now settings.now word }
 {
     if has_text(word) {
         name_word(config, word)
+    } else if matches!(word, 63 | 85 | 88) {
+        settings_word(settings, word)
     } else {
         driver_word(config.sectors(), word)
     }
 }
 
 /// The 512 bytes of the answer under `Field`.
-fn field_identity(alloc: Global, config: &DriveConfig) -> Result<Vec<u8>, AllocError>
-    ensures { IfOk result (λ bytes. bytes.items ≡ identity_in Field config.now) }
+fn field_identity(
+    alloc: Global,
+    config: &DriveConfig,
+    settings: &Settings,
+) -> Result<Vec<u8>, AllocError>
+    ensures { IfOk result (λ bytes. bytes.items ≡ identity_in Field config.now settings.now) }
 {
     let mut bytes = Vec::with_capacity(alloc, 2 * usize::from(WORDS))?;
     for word in 0..WORDS {
-        bytes.extend_from_slice(&field_word(config, word).to_le_bytes())?;
+        bytes.extend_from_slice(&field_word(config, settings, word).to_le_bytes())?;
     }
     Ok(bytes)
 }
 
-/// The 512 bytes that a drive answers to IDENTIFY DEVICE by its configuration. Under `Base` they are those of `identity`.
-/// Under `Field` they also have the names of the drive, the sectors that an address of 28 bits reaches, and the words by
-/// which a driver finds how to talk to it.
-pub fn identity_of(alloc: Global, config: &DriveConfig) -> Result<Vec<u8>, AllocError>
-    ensures { IfOk result (λ bytes. bytes.items ≡ identity_of config.now) }
+/// The 512 bytes that a drive answers to IDENTIFY DEVICE by its configuration and by what a host has chosen. Under `Base`
+/// they are those of `identity`. Under `Field` they also have the names of the drive, the sectors that an address of 28 bits
+/// reaches, and the words by which a driver finds how to talk to it.
+pub fn identity_of(
+    alloc: Global,
+    config: &DriveConfig,
+    settings: &Settings,
+) -> Result<Vec<u8>, AllocError>
+    ensures { IfOk result (λ bytes. bytes.items ≡ identity_of config.now settings.now) }
 {
     match config.profile() {
         Profile::Base => identity(alloc, config.sectors()),
-        Profile::Field => field_identity(alloc, config),
+        Profile::Field => field_identity(alloc, config, settings),
     }
 }

@@ -6,9 +6,11 @@ mod level0;
 mod log_page;
 mod pages;
 mod protocols;
+mod settings;
 
 pub use identify::{identity, identity_of};
 pub use level0::{DISCOVERY_LENGTH, FIELD_DISCOVERY_LENGTH, discovery, field_discovery, has_owner};
 pub use log_page::{Failure, error_log};
-pub use pages::device_page;
+pub use pages::device_log;
 pub use protocols::{PROTOCOL_LIST_LENGTH, protocol_list};
+pub use settings::Settings;

@@ -58,7 +58,7 @@ use Rattle.drive.specs.State.{DriveState, kept_facts, KeepsDrive, Agrees, Agrees
 use Rattle.drive.specs.Answers.{fises_in, IsAnswer, IsDoneAndAnswered}
 use Rattle.shadow_mbr.specs.declared.erasure.Erasure.{Erasure}
 use Rattle.shadow_mbr.specs.Erasure.{is_erased}
-use Rattle.drive.proofs.Keeping.{seen-is, nothing-keeps, failed-keeps, holds-keeps, moved-keeps, mended-keeps, tper-keeps, sends-of-tper, sends-erase, sent-deed, IsOfTper}
+use Rattle.drive.proofs.Keeping.{seen-is, nothing-keeps, failed-keeps, holds-keeps, moved-keeps, mended-keeps, tper-keeps, sends-of-tper, sends-erase, sent-deed, IsOfTper, of_tper}
 use Rattle.audit.specs.declared.rules.rule.Rule.TheVariants.{NoCommand, NoFrame}
 use Rattle.audit.specs.declared.rules.rule.Rule.{Rule}
 
@@ -66,21 +66,21 @@ use Rattle.audit.specs.declared.rules.rule.Rule.{Rule}
 
 pub send-keeps : (d e : DriveState) (o : Origin) (acts : List Act) (com_id : ℕ) (r : Result Frame FrameError) (s : Sent)
     → KeepsTper e.tper o (sent (facts o (log o acts)) com_id r ∷ log o acts) → IsToldOfSend (sent (facts o (log o acts)) com_id r) s
-    → e.queue ≡ d.queue → ((x : ℕ) → sector_at e.media x ≡ (if is_erased s.erases x then zeros else sector_at d.media x))
+    → e.queue ≡ d.queue → e.settings ≡ d.settings → ((x : ℕ) → sector_at e.media x ≡ (if is_erased s.erases x then zeros else sector_at d.media x))
     → KeepsDrive d o (log o acts) → KeepsDrive e o (sent (facts o (log o acts)) com_id r ∷ log o acts)
-send-keeps d e o acts com_id r s tper is queue media k =
+send-keeps d e o acts com_id r s tper is queue chosen media k =
     let f : Facts = facts o (log o acts) in
-    tper-keeps d e o (log o acts) (sent f com_id r) (sends-of-tper (sent f com_id r).deed (sent-deed f com_id r)) tper queue
+    tper-keeps d e o (log o acts) (sent f com_id r) (sends-of-tper (sent f com_id r).deed (sent-deed f com_id r)) tper queue chosen
     (λ x. media x ∙ ap (λ (w : Erasure). if is_erased w x then zeros else sector_at d.media x) is.erases
     ∙ sends-erase (sent f com_id r).deed x (sector_at d.media x) (sent-deed f com_id r)) k
 
 -- a receive does nothing, or takes what waits
 took-of : (com_id : ℕ) (b : Bool) → IsOfTper (if b then did (Took com_id) else did Nothing).deed
-took-of com_id true = (λ tag. refl, refl)
-took-of com_id false = (λ tag. refl, refl)
+took-of com_id true = of_tper (λ tag. refl) refl (λ s. refl)
+took-of com_id false = of_tper (λ tag. refl) refl (λ s. refl)
 
 received-of : (com_id blocks : ℕ) (w : Option (List ℕ)) → IsOfTper (received com_id blocks w).deed
-received-of com_id blocks None = (λ tag. refl, refl)
+received-of com_id blocks None = of_tper (λ tag. refl) refl (λ s. refl)
 received-of com_id blocks (Some response) = took-of com_id (nat_le (length response) (sector_size * blocks))
 
 took-moves : (com_id : ℕ) (b : Bool) (s : ℕ) → writing s (if b then did (Took com_id) else did Nothing).deed ≡ None
@@ -92,9 +92,9 @@ received-moves com_id blocks None s = refl
 received-moves com_id blocks (Some response) s = took-moves com_id (nat_le (length response) (sector_size * blocks)) s
 
 pub receive-keeps : (d e : DriveState) (o : Origin) (past : List Event) (com_id blocks : ℕ) → KeepsTper e.tper o (received com_id blocks (waiting past com_id) ∷ past)
-    → e.queue ≡ d.queue → e.media ≡ d.media → KeepsDrive d o past → KeepsDrive e o (received com_id blocks (waiting past com_id) ∷ past)
-receive-keeps d e o past com_id blocks tper queue media k =
-    tper-keeps d e o past (received com_id blocks (waiting past com_id)) (received-of com_id blocks (waiting past com_id)) tper queue
+    → e.queue ≡ d.queue → e.settings ≡ d.settings → e.media ≡ d.media → KeepsDrive d o past → KeepsDrive e o (received com_id blocks (waiting past com_id) ∷ past)
+receive-keeps d e o past com_id blocks tper queue chosen media k =
+    tper-keeps d e o past (received com_id blocks (waiting past com_id)) (received-of com_id blocks (waiting past com_id)) tper queue chosen
     (λ s. ap (λ (m : StoredSectors). sector_at m s) media ∙ sym (ap (λ (x : Option (List ℕ)). unwrap_or x (sector_at d.media s)) (received-moves com_id blocks (waiting past com_id) s))) k
 
 no-wait : (d : DriveState) (o : Origin) (past : List Event) (com_id : ℕ) → com_id ≡ 1 → KeepsDrive d o past → waiting past com_id ≡ None
@@ -122,7 +122,7 @@ protocols-keeps d o past payload (Send protocol com_id blocks dma) is k = absurd
 protocols-keeps d o past payload Identify is k = absurd (no-list is)
 protocols-keeps d o past payload (ReadLog10 dma) is k = absurd (no-list is)
 protocols-keeps d o past payload Flush is k = absurd (no-list is)
-protocols-keeps d o past payload SetFeatures is k = absurd (no-list is)
+protocols-keeps d o past payload (SetFeatures feature) is k = absurd (no-list is)
 protocols-keeps d o past payload (ReadLog page dma) is k = absurd (no-list is)
 protocols-keeps d o past payload (ReadQueued lba count) is k = absurd (no-list is)
 protocols-keeps d o past payload (WriteQueued lba count) is k = absurd (no-list is)
@@ -192,7 +192,7 @@ executed-succeeds f payload (Receive protocol com_id blocks dma) can = received-
 executed-succeeds f payload Identify can = (refl, refl)
 executed-succeeds f payload (ReadLog10 dma) can = log-succeeds (is_some f.failure)
 executed-succeeds f payload Flush can = (refl, refl)
-executed-succeeds f payload SetFeatures can = (refl, refl)
+executed-succeeds f payload (SetFeatures feature) can = (refl, refl)
 executed-succeeds f payload (ReadLog page dma) can = (refl, refl)
 executed-succeeds f payload (ReadQueued lba count) can = absurd can
 executed-succeeds f payload (WriteQueued lba count) can = absurd can
@@ -276,7 +276,7 @@ reset-no-data f (Receive protocol com_id blocks dma) is = absurd cc
 reset-no-data f Identify is = absurd cc
 reset-no-data f (ReadLog10 dma) is = absurd cc
 reset-no-data f Flush is = absurd cc
-reset-no-data f SetFeatures is = absurd cc
+reset-no-data f (SetFeatures feature) is = absurd cc
 reset-no-data f (ReadLog page dma) is = absurd cc
 reset-no-data f (ReadQueued lba count) is = absurd cc
 reset-no-data f (WriteQueued lba count) is = absurd cc
@@ -300,7 +300,7 @@ block-no-data f profile (Receive protocol com_id blocks dma) is = absurd cc
 block-no-data f profile Identify is = absurd cc
 block-no-data f profile (ReadLog10 dma) is = absurd cc
 block-no-data f profile Flush is = absurd cc
-block-no-data f profile SetFeatures is = absurd cc
+block-no-data f profile (SetFeatures feature) is = absurd cc
 block-no-data f profile (ReadLog page dma) is = absurd cc
 block-no-data f profile (ReadQueued lba count) is = absurd cc
 block-no-data f profile (WriteQueued lba count) is = absurd cc
@@ -319,9 +319,9 @@ blocks-done f h e o past payload profile command made a is due t k =
 
 -- what a block of SID leaves
 pub block-keeps : (d e : DriveState) (o : Origin) (past : List Event) (block : SidBlock) → KeepsTper e.tper o (did (BlockedSid block) ∷ past)
-    → e.queue ≡ d.queue → e.media ≡ d.media → KeepsDrive d o past → KeepsDrive e o (did (BlockedSid block) ∷ past)
-block-keeps d e o past block tper queue media k =
-    tper-keeps d e o past (did (BlockedSid block)) (λ tag. refl, refl) tper queue
+    → e.queue ≡ d.queue → e.settings ≡ d.settings → e.media ≡ d.media → KeepsDrive d o past → KeepsDrive e o (did (BlockedSid block) ∷ past)
+block-keeps d e o past block tper queue chosen media k =
+    tper-keeps d e o past (did (BlockedSid block)) (of_tper (λ tag. refl) refl (λ s. refl)) tper queue chosen
     (λ s. ap (λ (m : StoredSectors). sector_at m s) media) k
 
 -- the data of an unqueued transfer
@@ -340,11 +340,11 @@ moves-succeeds Read lba count payload = (refl, refl)
 moves-succeeds Write lba count payload = (refl, refl)
 
 pub moves-done : (h : RegH2d) (d e : DriveState) (o : Origin) (past : List Event) (payload : List ℕ) (its : Held) (made : Decision) (a : Accepted)
-    → made ≡ Moves its → IsMoved d h its → e.tper ≡ d.tper → e.queue ≡ d.queue
+    → made ≡ Moves its → IsMoved d h its → e.tper ≡ d.tper → e.queue ≡ d.queue → e.settings ≡ d.settings
     → ((s : ℕ) → sector_at e.media s ≡ sector_then its.transfer payload (sector_at d.media s) s)
     → IsTold a ready 0 false (answer_fis true ready 0 ∷ []) (held_bytes (kept_facts d (facts o past)) its) None None
     → KeepsDrive d o past → IsDoneAndAnswered (facts o past) h (decision_event (facts o past) payload made) e o past a
-moves-done h d e o past payload its made a is due tper queue media t k =
+moves-done h d e o past payload its made a is due tper queue chosen media t k =
     let op : Op = its.transfer.op in
     let lba : ℕ = its.transfer.lba in
     let count : ℕ = its.transfer.count in
@@ -353,7 +353,7 @@ moves-done h d e o past payload its made a is due tper queue media t k =
     let told : IsTold a ready 0 false (served_fises (unqueued_command its.transfer)) (data_of (facts o past) (unqueued_command its.transfer)) None None =
     record { status_is = t.status_is; error_is = t.error_is; held_is = t.held_is; fises_are = t.fises_are ∙ sym (moved-fises op lba count); bytes_are = t.bytes_are ∙ same; denied_is = t.denied_is; rule_is = t.rule_is } in
     subst (λ (x : Decision). IsDoneAndAnswered (facts o past) h (decision_event (facts o past) payload x) e o past a) (sym is) (
-      moved-keeps d e o past op lba count payload (did (transfer_deed its.transfer payload)) refl tper queue media k,
+      moved-keeps d e o past op lba count payload (did (transfer_deed its.transfer payload)) refl tper queue chosen media k,
       served-answer (facts o past) h (did (transfer_deed its.transfer payload)) a (unqueued_command its.transfer) (moves-succeeds op lba count payload) (read-as d o past h _ k due.reads) told,
     )
 

@@ -9,9 +9,10 @@ use Rattle.locking.specs.declared.range.Op.TheVariants.{Read, Write}
 use Rattle.trusted_cmds.specs.declared.command.Command.{Command}
 use Rattle.trusted_cmds.specs.declared.command.Command.TheVariants.{ReadQueued, WriteQueued, ReadDma, WriteDma, Flush, SetFeatures, ReadLog}
 use Rattle.trusted_cmds.specs.declared.command.CommandError.{CommandError}
-use Rattle.trusted_cmds.specs.declared.command.DevicePage.{DevicePage}
+use Rattle.trusted_cmds.specs.declared.feature.Feature.{Feature}
+use Rattle.trusted_cmds.specs.declared.log_pages.LogPages.{LogPages}
 use Rattle.trusted_cmds.specs.Commands.{reading, fault_of, read_unless, command_without_sectors, read_queued, write_queued, read_dma, write_dma, is_send, is_receive, is_log_read, identify_device, read_log_dma, set_features, has_lba_bit, sectors, blocks, sector_size, payload_length}
-use Rattle.trusted_cmds.specs.Profiles.{reading_in, read_or, beside, payload_length_in, short_read_dma, short_write_dma, short_flush_cache, short_lba, short_sectors, is_short_transfer, short_transfer, plain_or_page, page_named}
+use Rattle.trusted_cmds.specs.Profiles.{reading_in, read_or, beside, payload_length_in, short_read_dma, short_write_dma, short_flush_cache, short_lba, short_sectors, is_short_transfer, short_transfer, beside_without_sectors, feature_named, pages_named}
 use Rattle.history.proofs.SectorProofs.{write-size}
 use Rattle.drive.specs.Transfer.{by_op, unqueued_command, payload_size_of}
 use Rattle.drive.specs.declared.transfer.Transfer.{Transfer}
@@ -65,18 +66,22 @@ no-some h = cc
 not-read : {c : Command} {lba count : ℕ} → is_read c ≡ false → Some c ≡ Some (ReadDma lba count) → ⊥
 not-read none h = false_true (sym none ∙ ap is_read (some-is h))
 
-no-page : (page : Option DevicePage) (dma : Bool) (lba count : ℕ)
-    → option_map (λ (p : DevicePage). ReadLog p dma) page ≡ Some (ReadDma lba count) → ⊥
+no-page : (page : Option LogPages) (dma : Bool) (lba count : ℕ)
+    → option_map (λ (p : LogPages). ReadLog p dma) page ≡ Some (ReadDma lba count) → ⊥
 no-page None dma lba count g = no-some g
 no-page (Some p) dma lba count g = not-read refl g
 
+no-feature : (feature : Option Feature) (lba count : ℕ) → option_map SetFeatures feature ≡ Some (ReadDma lba count) → ⊥
+no-feature None lba count g = no-some g
+no-feature (Some f) lba count g = not-read refl g
+
 no-plain : (h : RegH2d) (a b c : Bool) (lba count : ℕ)
-    → cond a (Some Flush) (cond b (Some SetFeatures)
-    (cond c (option_map (λ (p : DevicePage). ReadLog p (h.command == read_log_dma)) (page_named h)) None))
+    → cond a (Some Flush) (cond b (option_map SetFeatures (feature_named h))
+    (cond c (option_map (λ (p : LogPages). ReadLog p (h.command == read_log_dma)) (pages_named h)) None))
     ≡ Some (ReadDma lba count) → ⊥
 no-plain h true b c lba count g = not-read refl g
-no-plain h false true c lba count g = not-read refl g
-no-plain h false false true lba count g = no-page (page_named h) (h.command == read_log_dma) lba count g
+no-plain h false true c lba count g = no-feature (feature_named h) lba count g
+no-plain h false false true lba count g = no-page (pages_named h) (h.command == read_log_dma) lba count g
 no-plain h false false false lba count g = no-some g
 
 transferred : (h : RegH2d) (a : Bool) (lba count : ℕ) → (h.command == short_read_dma) ≡ a
@@ -89,7 +94,7 @@ short-read : (h : RegH2d) (lba count : ℕ) → beside h ≡ Some (ReadDma lba c
 short-read h lba count g = by_command (not h.is_command) (is_short_transfer h.command) (has_lba_bit h.device) g
   where
     by_command : (a b c : Bool)
-        → cond a None (cond b (cond c (Some (short_transfer h)) None) (plain_or_page h)) ≡ Some (ReadDma lba count)
+        → cond a None (cond b (cond c (Some (short_transfer h)) None) (beside_without_sectors h)) ≡ Some (ReadDma lba count)
         → (h.command == short_read_dma) ≡ true
     by_command true b c k = absurd (no-some k)
     by_command false true true k = transferred h (h.command == short_read_dma) lba count refl (some-is k)

@@ -31,7 +31,7 @@ finished-keeps : (gives : List ℕ → List ℕ) (old new : DriveState) (done : 
 finished-keeps gives old new done o acts tag payload None small is f k = absurd f
 finished-keeps gives old new done o acts tag payload (Some its) small is f k =
     completed-keeps old new o (log o acts) tag its.transfer.op its.transfer.lba its.transfer.count payload (verdict_held its) (completed tag payload (held_in (log o acts) tag)) small
-    (ap (completed tag payload) (slot-held old o (log o acts) tag (Some its) is k)) f.tper f.queue f.media k
+    (ap (completed tag payload) (slot-held old o (log o acts) tag (Some its) is k)) f.tper f.queue f.settings f.media k
 
 -- the bytes of what is held
 data-by : (f : Facts) (op : Op) (lba count : ℕ) (shadowed : Bool)
@@ -57,14 +57,15 @@ heads-of-write v f held is none =
 
 -- the transfer moves, and then its slot is free
 pub finished-some : (gives : List ℕ → List ℕ) (tag : ℕ) (payload : List ℕ) (x : Option Held) (its : Held) (old mid new : DriveState) (done : Completed) → x ≡ Some its
-    → mid.tper ≡ old.tper → mid.queue ≡ old.queue → ((s : ℕ) → sector_at mid.media s ≡ sector_then its.transfer payload (sector_at old.media s) s)
+    → mid.tper ≡ old.tper → mid.queue ≡ old.queue → mid.settings ≡ old.settings → ((s : ℕ) → sector_at mid.media s ≡ sector_then its.transfer payload (sector_at old.media s) s)
     → new ≡ record mid { queue = with_slot tag None mid.queue }
     → fises_done done ≡ fises_of tag (queued_command its.transfer) → ((f : Facts) → done.bytes.items ≡ gives (held_bytes (kept_facts old f) its))
     → IsFinished gives tag payload x old new done
-finished-some gives tag payload x its old mid new done is tper queue media freed fises bytes =
+finished-some gives tag payload x its old mid new done is tper queue chosen media freed fises bytes =
     subst (λ (x : Option Held). IsFinished gives tag payload x old new done) (sym is) (record {
       tper = ap (λ (d : DriveState). d.tper) freed ∙ tper;
       queue = ap (λ (d : DriveState). d.queue) freed ∙ ap (with_slot tag None) queue;
+      settings = ap (λ (d : DriveState). d.settings) freed ∙ chosen;
       media = λ s. ap (λ (d : DriveState). sector_at d.media s) freed ∙ media s;
       fises = fises;
       bytes = bytes;

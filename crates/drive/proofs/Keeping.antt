@@ -6,6 +6,9 @@ use Rattle.std.proofs.Math.ListN.{length-set}
 use Rattle.locking.specs.declared.range.Op.{Op}
 use Rattle.locking.specs.declared.range.Op.TheVariants.{Read, Write}
 use Rattle.device_data.specs.declared.log_page.Failure.{Failure}
+use Rattle.device_data.specs.declared.settings.Settings.{Settings}
+use Rattle.device_data.specs.Settings.{with_feature}
+use Rattle.trusted_cmds.specs.declared.feature.Feature.{Feature}
 use Rattle.shadow_mbr.specs.Stored.{sector_size, sector_at, zeros}
 use Rattle.transactions.specs.Sights.{look_up, committed_sight}
 use Rattle.compacket.specs.Frames.{Frame}
@@ -18,8 +21,8 @@ use Rattle.sessions.specs.Deeds.{Begun, erased_by}
 use Rattle.history.specs.Decisions.{completed}
 use Rattle.history.specs.Tcg.{sent, framed, to_session, to_manager, answers, is_manager}
 use Rattle.history.specs.Opening.{Origin}
-use Rattle.history.specs.Events.{HeldCommand, QueueDeed, Held as HeldDeed, Completed, CompletedWrite, QueueFailed, QueueMended, QueueEnded, Deed, Nothing, OfQueue, Wrote, Took, BlockedSid, WasReset, InSession, Event, did, or_else, latest, ignores}
-use Rattle.history.specs.Readers.{holding, held, in_force, failing, failure, writing, sector}
+use Rattle.history.specs.Events.{HeldCommand, QueueDeed, Held as HeldDeed, Completed, CompletedWrite, QueueFailed, QueueMended, QueueEnded, Deed, Nothing, OfQueue, Wrote, Took, BlockedSid, Chose, WasReset, InSession, Event, did, or_else, latest, ignores}
+use Rattle.history.specs.Readers.{holding, held, in_force, failing, failure, writing, sector, settings_then}
 use Rattle.history.specs.Facts.{Facts, facts, session_named}
 use Rattle.history.specs.KeptStore.{ReadsStore}
 use Rattle.history.proofs.KeptStoreReads.{store_read_law}
@@ -39,13 +42,14 @@ use Rattle.audit.specs.declared.rules.rule.Rule.TheVariants.{NoFrame}
 pub seen-is : (d : DriveState) (o : Origin) (past : List Event) → KeepsDrive d o past → kept_facts d (facts o past) ≡ facts o past
 seen-is d o past k =
     ap (λ x. record (kept_facts d g) { config = x }) k.tper.store.config
-    ∙ ap (λ x. record g { rows = x; byte = slice_index d.tper.store.locking.bytes; held = held_at d.queue; failure = d.queue.failure; waiting = response_at d.tper.waiting; sector = sector_at d.media; block = d.tper.live.block }) reads.rows
-    ∙ ap (λ x. record g { byte = x; held = held_at d.queue; failure = d.queue.failure; waiting = response_at d.tper.waiting; sector = sector_at d.media; block = d.tper.live.block }) reads.bytes
-    ∙ ap (λ x. record g { held = x; failure = d.queue.failure; waiting = response_at d.tper.waiting; sector = sector_at d.media; block = d.tper.live.block }) (fun_ext k.held)
-    ∙ ap (λ x. record g { failure = x; waiting = response_at d.tper.waiting; sector = sector_at d.media; block = d.tper.live.block }) k.failure
-    ∙ ap (λ x. record g { waiting = x; sector = sector_at d.media; block = d.tper.live.block }) (fun_ext k.tper.waiting)
-    ∙ ap (λ x. record g { sector = x; block = d.tper.live.block }) (fun_ext k.sectors)
-    ∙ ap (λ x. record g { block = x }) k.tper.block
+    ∙ ap (λ x. record g { rows = x; byte = slice_index d.tper.store.locking.bytes; held = held_at d.queue; failure = d.queue.failure; waiting = response_at d.tper.waiting; sector = sector_at d.media; block = d.tper.live.block; settings = d.settings }) reads.rows
+    ∙ ap (λ x. record g { byte = x; held = held_at d.queue; failure = d.queue.failure; waiting = response_at d.tper.waiting; sector = sector_at d.media; block = d.tper.live.block; settings = d.settings }) reads.bytes
+    ∙ ap (λ x. record g { held = x; failure = d.queue.failure; waiting = response_at d.tper.waiting; sector = sector_at d.media; block = d.tper.live.block; settings = d.settings }) (fun_ext k.held)
+    ∙ ap (λ x. record g { failure = x; waiting = response_at d.tper.waiting; sector = sector_at d.media; block = d.tper.live.block; settings = d.settings }) k.failure
+    ∙ ap (λ x. record g { waiting = x; sector = sector_at d.media; block = d.tper.live.block; settings = d.settings }) (fun_ext k.tper.waiting)
+    ∙ ap (λ x. record g { sector = x; block = d.tper.live.block; settings = d.settings }) (fun_ext k.sectors)
+    ∙ ap (λ x. record g { block = x; settings = d.settings }) k.tper.block
+    ∙ ap (λ x. record g { settings = x }) k.settings
   where
     g : Facts
     g = facts o past
@@ -63,13 +67,15 @@ pub keeps-more : (d e : DriveState) (o : Origin) (past : List Event) (ev : Event
     → ((tag : ℕ) → held_at e.queue tag ≡ unwrap_or (holding tag ev.deed) (held_at d.queue tag))
     → e.queue.failure ≡ unwrap_or (failing ev.deed) d.queue.failure
     → ((s : ℕ) → sector_at e.media s ≡ unwrap_or (writing s ev.deed) (sector_at d.media s))
+    → e.settings ≡ settings_then ev.deed d.settings
     → KeepsDrive d o past → KeepsDrive e o (ev ∷ past)
-keeps-more d e o past ev tper len hold fail move k = record {
+keeps-more d e o past ev tper len hold fail move chosen k = record {
   tper = tper;
   slots = len;
   held = λ tag. hold tag ∙ ap (unwrap_or (holding tag ev.deed)) (k.held tag) ∙ later (holding tag ev.deed) (latest (holding tag) past) None;
   failure = fail ∙ ap (unwrap_or (failing ev.deed)) k.failure ∙ later (failing ev.deed) (latest failing past) None;
   sectors = λ s. move s ∙ ap (unwrap_or (writing s ev.deed)) (k.sectors s) ∙ later (writing s ev.deed) (latest (writing s) past) zeros;
+  settings = chosen ∙ ap (settings_then ev.deed) k.settings;
 }
 
 -- a state with the same TPer, beside a deed that spares it
@@ -82,7 +88,8 @@ nothing-keeps d o past ev h k =
     keeps-more d d o past ev (spared d d o past ev refl (ap spares h) k) k.slots
     (λ tag. sym (ap (λ (x : Deed). unwrap_or (holding tag x) (held_at d.queue tag)) h))
     (sym (ap (λ (x : Deed). unwrap_or (failing x) d.queue.failure) h))
-    (λ s. sym (ap (λ (x : Deed). unwrap_or (writing s x) (sector_at d.media s)) h)) k
+    (λ s. sym (ap (λ (x : Deed). unwrap_or (writing s x) (sector_at d.media s)) h))
+    (sym (ap (λ (x : Deed). settings_then x d.settings) h)) k
 
 -- the queue fails
 pub failed-keeps : (d e : DriveState) (o : Origin) (past : List Event) (fault : Failure) (ev : Event) → ev.deed ≡ OfQueue (QueueFailed fault)
@@ -91,14 +98,15 @@ failed-keeps d e o past fault ev h is k = subst (λ (x : DriveState). KeepsDrive
     keeps-more d (record d { queue = failed_queue fault }) o past ev (spared d d o past ev refl (ap spares h) k) none_length
     (λ tag. ap (option_map held_command) (no_slot tag) ∙ sym (ap (λ (x : Deed). unwrap_or (holding tag x) (held_at d.queue tag)) h))
     (sym (ap (λ (x : Deed). unwrap_or (failing x) d.queue.failure) h))
-    (λ s. sym (ap (λ (x : Deed). unwrap_or (writing s x) (sector_at d.media s)) h)) k)
+    (λ s. sym (ap (λ (x : Deed). unwrap_or (writing s x) (sector_at d.media s)) h))
+    (sym (ap (λ (x : Deed). settings_then x d.settings) h)) k)
 
 -- the queue ends
 pub ended-keeps : (d e : DriveState) (o : Origin) (past : List Event) → e ≡ record d { queue = empty_queue } → KeepsDrive d o past
     → KeepsDrive e o (did (OfQueue QueueEnded) ∷ past)
 ended-keeps d e o past is k = subst (λ (x : DriveState). KeepsDrive x o (did (OfQueue QueueEnded) ∷ past)) (sym is) (
     keeps-more d (record d { queue = empty_queue }) o past (did (OfQueue QueueEnded)) (spared d d o past (did (OfQueue QueueEnded)) refl refl k) none_length
-    (λ tag. ap (option_map held_command) (no_slot tag)) refl (λ s. refl) k)
+    (λ tag. ap (option_map held_command) (no_slot tag)) refl (λ s. refl) refl k)
 
 -- a slot is set
 set-here : (b : Bool) (x y : Option Held) → option_map held_command (cond b x y) ≡ unwrap_or (cond b (Some (option_map held_command x)) None) (option_map held_command y)
@@ -115,7 +123,8 @@ holds-keeps d e o past tag its ev small h is k = subst (λ (x : DriveState). Kee
     ∙ set-here (tag == t) (Some its) (slot_at d.queue.slots t)
     ∙ sym (ap (λ (x : Deed). unwrap_or (holding t x) (held_at d.queue t)) h))
     (sym (ap (λ (x : Deed). unwrap_or (failing x) d.queue.failure) h))
-    (λ s. sym (ap (λ (x : Deed). unwrap_or (writing s x) (sector_at d.media s)) h)) k)
+    (λ s. sym (ap (λ (x : Deed). unwrap_or (writing s x) (sector_at d.media s)) h))
+    (sym (ap (λ (x : Deed). settings_then x d.settings) h)) k)
 
 -- data move
 written-here : (b : Bool) (x y : List ℕ) → cond b x y ≡ unwrap_or (cond b (Some x) None) y
@@ -124,31 +133,33 @@ written-here false x y = refl
 
 -- an unqueued transfer
 pub moved-keeps : (d e : DriveState) (o : Origin) (past : List Event) (op : Op) (lba count : ℕ) (payload : List ℕ) (ev : Event)
-    → ev.deed ≡ transfer_deed (transfer_by op lba count) payload → e.tper ≡ d.tper → e.queue ≡ d.queue
+    → ev.deed ≡ transfer_deed (transfer_by op lba count) payload → e.tper ≡ d.tper → e.queue ≡ d.queue → e.settings ≡ d.settings
     → ((s : ℕ) → sector_at e.media s ≡ sector_then (transfer_by op lba count) payload (sector_at d.media s) s)
     → KeepsDrive d o past → KeepsDrive e o (ev ∷ past)
-moved-keeps d e o past Read lba count payload ev h tper queue media k =
+moved-keeps d e o past Read lba count payload ev h tper queue chosen media k =
     keeps-more d e o past ev (spared d e o past ev tper (ap spares h) k)
     (ap (λ (q : Queue). length q.slots) queue ∙ k.slots)
     (λ t. ap (λ (q : Queue). held_at q t) queue ∙ sym (ap (λ (x : Deed). unwrap_or (holding t x) (held_at d.queue t)) h))
     (ap (λ (q : Queue). q.failure) queue ∙ sym (ap (λ (x : Deed). unwrap_or (failing x) d.queue.failure) h))
-    (λ s. media s ∙ sym (ap (λ (x : Deed). unwrap_or (writing s x) (sector_at d.media s)) h)) k
-moved-keeps d e o past Write lba count payload ev h tper queue media k =
+    (λ s. media s ∙ sym (ap (λ (x : Deed). unwrap_or (writing s x) (sector_at d.media s)) h))
+    (chosen ∙ sym (ap (λ (x : Deed). settings_then x d.settings) h)) k
+moved-keeps d e o past Write lba count payload ev h tper queue chosen media k =
     keeps-more d e o past ev (spared d e o past ev tper (ap spares h) k)
     (ap (λ (q : Queue). length q.slots) queue ∙ k.slots)
     (λ t. ap (λ (q : Queue). held_at q t) queue ∙ sym (ap (λ (x : Deed). unwrap_or (holding t x) (held_at d.queue t)) h))
     (ap (λ (q : Queue). q.failure) queue ∙ sym (ap (λ (x : Deed). unwrap_or (failing x) d.queue.failure) h))
     (λ s. media s
     ∙ written-here (nat_le lba s && nat_lt s (lba + length payload / 512)) (take 512 (drop (512 * (s - lba)) payload)) (sector_at d.media s)
-    ∙ sym (ap (λ (x : Deed). unwrap_or (writing s x) (sector_at d.media s)) h)) k
+    ∙ sym (ap (λ (x : Deed). unwrap_or (writing s x) (sector_at d.media s)) h))
+    (chosen ∙ sym (ap (λ (x : Deed). settings_then x d.settings) h)) k
 
 -- a completion
 pub completed-keeps : (d e : DriveState) (o : Origin) (past : List Event) (tag : ℕ) (op : Op) (lba count : ℕ) (payload : List ℕ) (v : Verdict) (ev : Event)
     → tag < 32 → ev ≡ completed tag payload (Some (record { command = queued_command (transfer_by op lba count); verdict = v }))
-    → e.tper ≡ d.tper → e.queue ≡ with_slot tag None d.queue
+    → e.tper ≡ d.tper → e.queue ≡ with_slot tag None d.queue → e.settings ≡ d.settings
     → ((s : ℕ) → sector_at e.media s ≡ sector_then (transfer_by op lba count) payload (sector_at d.media s) s)
     → KeepsDrive d o past → KeepsDrive e o (ev ∷ past)
-completed-keeps d e o past tag Read lba count payload v ev small h tper queue media k =
+completed-keeps d e o past tag Read lba count payload v ev small h tper queue chosen media k =
     keeps-more d e o past ev (spared d e o past ev tper (ap (λ (x : Event). spares x.deed) h) k)
     (ap (λ (q : Queue). length q.slots) queue ∙ length-set d.queue.slots tag None ∙ k.slots)
     (λ t. ap (λ (q : Queue). held_at q t) queue
@@ -156,8 +167,9 @@ completed-keeps d e o past tag Read lba count payload v ev small h tper queue me
     ∙ set-here (tag == t) None (slot_at d.queue.slots t)
     ∙ sym (ap (λ (x : Event). unwrap_or (holding t x.deed) (held_at d.queue t)) h))
     (ap (λ (q : Queue). q.failure) queue ∙ sym (ap (λ (x : Event). unwrap_or (failing x.deed) d.queue.failure) h))
-    (λ s. media s ∙ sym (ap (λ (x : Event). unwrap_or (writing s x.deed) (sector_at d.media s)) h)) k
-completed-keeps d e o past tag Write lba count payload v ev small h tper queue media k =
+    (λ s. media s ∙ sym (ap (λ (x : Event). unwrap_or (writing s x.deed) (sector_at d.media s)) h))
+    (chosen ∙ sym (ap (λ (x : Event). settings_then x.deed d.settings) h)) k
+completed-keeps d e o past tag Write lba count payload v ev small h tper queue chosen media k =
     keeps-more d e o past ev (spared d e o past ev tper (ap (λ (x : Event). spares x.deed) h) k)
     (ap (λ (q : Queue). length q.slots) queue ∙ length-set d.queue.slots tag None ∙ k.slots)
     (λ t. ap (λ (q : Queue). held_at q t) queue
@@ -167,23 +179,29 @@ completed-keeps d e o past tag Write lba count payload v ev small h tper queue m
     (ap (λ (q : Queue). q.failure) queue ∙ sym (ap (λ (x : Event). unwrap_or (failing x.deed) d.queue.failure) h))
     (λ s. media s
     ∙ written-here (nat_le lba s && nat_lt s (lba + length payload / 512)) (take 512 (drop (512 * (s - lba)) payload)) (sector_at d.media s)
-    ∙ sym (ap (λ (x : Event). unwrap_or (writing s x.deed) (sector_at d.media s)) h)) k
+    ∙ sym (ap (λ (x : Event). unwrap_or (writing s x.deed) (sector_at d.media s)) h))
+    (chosen ∙ sym (ap (λ (x : Event). settings_then x.deed d.settings) h)) k
 
 -- what the TPer does: deeds that no queue has part in
 
--- the deed says nothing of the queue
-abbrev pub IsOfTper : Deed → Type 0
-IsOfTper d = ((tag : ℕ) → holding tag d ≡ None) × (failing d ≡ None)
+-- the deed says nothing of the queue, and nothing of what a host chose
+pub record IsOfTper (d : Deed) : Type 0 where
+  pub holds : (tag : ℕ) → holding tag d ≡ None
+  pub fails : failing d ≡ None
+  pub chooses : (settings : Settings) → settings_then d settings ≡ settings
 
-pub tper-keeps : (d e : DriveState) (o : Origin) (past : List Event) (ev : Event) → IsOfTper ev.deed → KeepsTper e.tper o (ev ∷ past) → e.queue ≡ d.queue
+pub of_tper : {d : Deed} → ((tag : ℕ) → holding tag d ≡ None) → failing d ≡ None → ((settings : Settings) → settings_then d settings ≡ settings) → IsOfTper d
+of_tper h f c = record { holds = h; fails = f; chooses = c }
+
+pub tper-keeps : (d e : DriveState) (o : Origin) (past : List Event) (ev : Event) → IsOfTper ev.deed → KeepsTper e.tper o (ev ∷ past) → e.queue ≡ d.queue → e.settings ≡ d.settings
     → ((s : ℕ) → sector_at e.media s ≡ unwrap_or (writing s ev.deed) (sector_at d.media s))
     → KeepsDrive d o past → KeepsDrive e o (ev ∷ past)
-tper-keeps d e o past ev its tper queue media k =
+tper-keeps d e o past ev its tper queue chosen media k =
     keeps-more d e o past ev tper
     (ap (λ (q : Queue). length q.slots) queue ∙ k.slots)
-    (λ t. ap (λ (q : Queue). held_at q t) queue ∙ sym (ap (λ (x : Option (Option HeldCommand)). unwrap_or x (held_at d.queue t)) (its.0 t)))
-    (ap (λ (q : Queue). q.failure) queue ∙ sym (ap (λ (x : Option (Option Failure)). unwrap_or x d.queue.failure) its.1))
-    media k
+    (λ t. ap (λ (q : Queue). held_at q t) queue ∙ sym (ap (λ (x : Option (Option HeldCommand)). unwrap_or x (held_at d.queue t)) (its.holds t)))
+    (ap (λ (q : Queue). q.failure) queue ∙ sym (ap (λ (x : Option (Option Failure)). unwrap_or x d.queue.failure) its.fails))
+    media (chosen ∙ sym (its.chooses d.settings)) k
 
 -- media after what was sent
 erase-here : (b : Bool) (before : List ℕ) → (if b then zeros else before) ≡ unwrap_or (if b then Some zeros else None) before
@@ -197,12 +215,13 @@ IsSendDeed (InSession deed response) = Unit {0}
 IsSendDeed _ = ⊥
 
 pub sends-of-tper : (d : Deed) → IsSendDeed d → IsOfTper d
-sends-of-tper Nothing h = (λ tag. refl, refl)
-sends-of-tper (InSession deed response) h = (λ tag. refl, refl)
+sends-of-tper Nothing h = of_tper (λ tag. refl) refl (λ s. refl)
+sends-of-tper (InSession deed response) h = of_tper (λ tag. refl) refl (λ s. refl)
 sends-of-tper (OfQueue deed) h = absurd h
 sends-of-tper (Wrote lba bytes) h = absurd h
 sends-of-tper (Took com_id) h = absurd h
 sends-of-tper (BlockedSid block) h = absurd h
+sends-of-tper (Chose feature) h = absurd h
 sends-of-tper (WasReset kind) h = absurd h
 
 pub sends-erase : (d : Deed) (s : ℕ) (before : List ℕ) → IsSendDeed d → (if is_erased (erased_by_deed d) s then zeros else before) ≡ unwrap_or (writing s d) before
@@ -212,6 +231,7 @@ sends-erase (OfQueue deed) s before h = absurd h
 sends-erase (Wrote lba bytes) s before h = absurd h
 sends-erase (Took com_id) s before h = absurd h
 sends-erase (BlockedSid block) s before h = absurd h
+sends-erase (Chose feature) s before h = absurd h
 sends-erase (WasReset kind) s before h = absurd h
 
 to-session-deed : (f : Facts) (com_id : ℕ) (named : Session) (payload : List ℕ) (b : Option Begun) → IsSendDeed (to_session f com_id named payload b).deed
@@ -231,15 +251,22 @@ pub sent-deed : (f : Facts) (com_id : ℕ) (r : Result Frame FrameError) → IsS
 sent-deed f com_id (Err e) = tt
 sent-deed f com_id (Ok frame) = frame-deed f com_id frame (frame.com_id == com_id)
 
+-- a feature is chosen
+pub chosen-keeps : (d e : DriveState) (o : Origin) (past : List Event) (feature : Feature) → e ≡ record d { settings = with_feature feature d.settings }
+    → KeepsDrive d o past → KeepsDrive e o (did (Chose feature) ∷ past)
+chosen-keeps d e o past feature is k = subst (λ (x : DriveState). KeepsDrive x o (did (Chose feature) ∷ past)) (sym is) (
+    keeps-more d (record d { settings = with_feature feature d.settings }) o past (did (Chose feature)) (spared d d o past (did (Chose feature)) refl refl k) k.slots
+    (λ tag. refl) refl (λ s. refl) refl k)
+
 -- log page 10h is read, which ends a failure
 mended-by : (d : DriveState) (o : Origin) (past : List Event) (x : Option Failure) → failure past ≡ x
     → KeepsDrive d o past → KeepsDrive (record d { queue = mended_queue d.queue }) o (did (if is_some x then OfQueue QueueMended else Nothing) ∷ past)
 mended-by d o past None none k =
     keeps-more d (record d { queue = mended_queue d.queue }) o past (did Nothing) (spared d d o past (did Nothing) refl refl k) k.slots
-    (λ tag. refl) (sym (k.failure ∙ none)) (λ s. refl) k
+    (λ tag. refl) (sym (k.failure ∙ none)) (λ s. refl) refl k
 mended-by d o past (Some fault) some k =
     keeps-more d (record d { queue = mended_queue d.queue }) o past (did (OfQueue QueueMended)) (spared d d o past (did (OfQueue QueueMended)) refl refl k) k.slots
-    (λ tag. refl) refl (λ s. refl) k
+    (λ tag. refl) refl (λ s. refl) refl k
 
 pub mended-keeps : (d e : DriveState) (o : Origin) (past : List Event) → e ≡ record d { queue = mended_queue d.queue }
     → KeepsDrive d o past → KeepsDrive e o (did (if is_some (failure past) then OfQueue QueueMended else Nothing) ∷ past)

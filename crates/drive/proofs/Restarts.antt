@@ -9,6 +9,7 @@ use Rattle.tper.specs.Tper.{Keeps as KeepsTper}
 use Rattle.drive.specs.declared.queue.Queue.{Queue}
 use Rattle.drive.specs.Transfer.{held_command}
 use Rattle.drive.specs.Queue.{held_at, empty_queue}
+use Rattle.device_data.specs.Settings.{first_settings, settings_at_reset}
 use Rattle.drive.specs.State.{DriveState, KeepsDrive, Agrees, AgreesInOrder}
 use Rattle.drive.proofs.Slots.{no_slot, none_length}
 use Rattle.drive.proofs.Keeping.{keeps-more, ended-keeps}
@@ -21,19 +22,20 @@ empty-length queue is = ap (λ (q : Queue). length q.slots) is ∙ none_length
 
 -- nothing is held after a reset, and media stay
 pub restart-keeps : (d e : DriveState) (o : Origin) (past : List Event) (kind : ℕ) → KeepsTper e.tper o (did (WasReset kind) ∷ past)
-    → e.queue ≡ empty_queue → e.media ≡ d.media → KeepsDrive d o past → KeepsDrive e o (did (WasReset kind) ∷ past)
-restart-keeps d e o past kind tper queue media k =
+    → e.queue ≡ empty_queue → e.media ≡ d.media → e.settings ≡ settings_at_reset kind d.settings → KeepsDrive d o past → KeepsDrive e o (did (WasReset kind) ∷ past)
+restart-keeps d e o past kind tper queue media chosen k =
     keeps-more d e o past (did (WasReset kind)) tper (empty-length e.queue queue) (λ tag. empty-held e.queue tag queue)
-    (ap (λ (q : Queue). q.failure) queue) (λ s. ap (λ (m : StoredSectors). sector_at m s) media) k
+    (ap (λ (q : Queue). q.failure) queue) (λ s. ap (λ (m : StoredSectors). sector_at m s) media) chosen k
 
 -- nothing was done
-pub fresh-keeps : (d : DriveState) (o : Origin) → KeepsTper d.tper o [] → d.queue ≡ empty_queue → ((s : ℕ) → sector_at d.media s ≡ zeros) → KeepsDrive d o []
-fresh-keeps d o tper queue media = record {
+pub fresh-keeps : (d : DriveState) (o : Origin) → KeepsTper d.tper o [] → d.queue ≡ empty_queue → ((s : ℕ) → sector_at d.media s ≡ zeros) → d.settings ≡ first_settings → KeepsDrive d o []
+fresh-keeps d o tper queue media chosen = record {
   tper = tper;
   slots = empty-length d.queue queue;
   held = λ tag. empty-held d.queue tag queue;
   failure = ap (λ (q : Queue). q.failure) queue;
   sectors = media;
+  settings = chosen;
 }
 
 -- the newest act is the last of a list in order

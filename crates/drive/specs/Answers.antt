@@ -66,6 +66,7 @@ pub record Finishes (gives : List ℕ → List ℕ) (tag : ℕ) (payload : List 
     (old new : DriveState) (done : Completed) : Type 0 where
   pub tper : new.tper ≡ old.tper
   pub queue : new.queue ≡ with_slot tag None old.queue
+  pub settings : new.settings ≡ old.settings
   pub media : (s : ℕ) → sector_at new.media s
       ≡ sector_then held.transfer payload (sector_at old.media s) s
   pub fises : fises_done done ≡ fises_of tag (queued_command held.transfer)

@@ -17,7 +17,7 @@ use Rattle.trusted_cmds.specs.declared.command.Command.TheVariants.{Send, Receiv
 use Rattle.trusted_cmds.specs.Commands.{is_programmatic_reset, is_protocol_list}
 use Rattle.trusted_cmds.specs.BlockSid.{is_block_sid, block_asked}
 use Rattle.sp_cells.specs.Resets.{programmatic}
-use Rattle.history.specs.Events.{Deed, Nothing, OfQueue, QueueFailed, QueueMended, Wrote, WasReset, BlockedSid, Event, did}
+use Rattle.history.specs.Events.{Deed, Nothing, OfQueue, QueueFailed, QueueMended, Wrote, WasReset, BlockedSid, Chose, Event, did}
 use Rattle.history.specs.Facts.{Facts}
 use Rattle.history.specs.Decisions.{aborted, not_found, fails, holds, received, is_session_com_id, discovery_com_id, unreceived}
 use Rattle.history.specs.Tcg.{sent, command_read, unsent}
@@ -92,6 +92,7 @@ executed f payload (Receive protocol com_id blocks dma) =
     received com_id blocks (f.waiting com_id)
 executed f payload (ReadLog10 dma) =
     did (if is_some f.failure then OfQueue QueueMended else Nothing)
+executed f payload (SetFeatures feature) = did (Chose feature)
 executed f payload _ = did Nothing
 
 -- Why a trusted command is not taken.
@@ -142,8 +143,8 @@ CanExecute (Receive protocol com_id blocks dma) =
 CanExecute Identify = Unit {0}
 CanExecute (ReadLog10 dma) = Unit {0}
 CanExecute Flush = Unit {0}
-CanExecute SetFeatures = Unit {0}
-CanExecute (ReadLog page dma) = Unit {0}
+CanExecute (SetFeatures feature) = Unit {0}
+CanExecute (ReadLog pages dma) = Unit {0}
 CanExecute _ = ⊥
 
 abbrev pub IsDue : DriveState → RegH2d → Decision → Type 0

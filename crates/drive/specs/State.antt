@@ -2,22 +2,24 @@
 use Rattle.std.specs.Prelude.{◌≡◌, ℕ, List, ◌∷◌, length, reverse, slice_index}
 use Rattle.fis.specs.Tags.{slot_count}
 use Rattle.fis.specs.declared.h2d.RegH2d.{RegH2d}
+use Rattle.device_data.specs.declared.settings.Settings.{Settings}
 use Rattle.shadow_mbr.specs.Stored.{StoredSectors, sector_at}
 use Rattle.transactions.specs.Sights.{look_up, committed_sight}
 use Rattle.history.specs.Opening.{Origin}
 use Rattle.history.specs.Events.{Event}
-use Rattle.history.specs.Readers.{sector, held, failure}
+use Rattle.history.specs.Readers.{sector, held, failure, settings}
 use Rattle.history.specs.Facts.{Facts}
 use Rattle.history.specs.History.{Act, log}
 use Rattle.tper.specs.Tper.{Tper, Keeps as KeepsTper, response_at}
 use Rattle.drive.specs.declared.queue.Queue.{Queue}
 use Rattle.drive.specs.Queue.{held_at}
 
--- What contracts see of a drive: the rows, sessions and responses, the queue, and the media.
+-- What contracts see of a drive: the rows, sessions and responses, the queue, the media, and what a host has chosen.
 pub record DriveState : Type 0 where
   pub tper : Tper
   pub queue : Queue
   pub media : StoredSectors
+  pub settings : Settings
 
 -- Facts of which the drive shows those that it keeps itself; the sessions are its TPer's.
 abbrev pub kept_facts : DriveState → Facts → Facts
@@ -30,6 +32,7 @@ kept_facts d f = record f {
   waiting = response_at d.tper.waiting;
   sector = sector_at d.media;
   block = d.tper.live.block;
+  settings = d.settings;
 }
 
 -- It keeps what these events say, part by part.
@@ -39,6 +42,7 @@ pub record KeepsDrive (d : DriveState) (o : Origin) (past : List Event) : Type 0
   pub held : (tag : ℕ) → held_at d.queue tag ≡ held past tag
   pub failure : d.queue.failure ≡ failure past
   pub sectors : (place : ℕ) → sector_at d.media place ≡ sector past place
+  pub settings : d.settings ≡ settings past
 
 -- The drive agrees with what it started from and the acts so far, the newest first.
 abbrev pub Agrees : DriveState → Origin → List Act → Type 0

@@ -288,7 +288,7 @@ impl Drive {
             Command::Identify
             | Command::ReadLog10 { .. }
             | Command::Flush
-            | Command::SetFeatures
+            | Command::SetFeatures { .. }
             | Command::ReadLog { .. } => Decision::Executes(command),
             Command::ReadQueued { .. } | Command::WriteQueued { .. } => aborts(Rule::NoCommand),
         }

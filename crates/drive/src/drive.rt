@@ -15,7 +15,10 @@ use crate::queue::Queue;
 use crate::transfer::{Held, Transfer};
 use audit::rules::Rule;
 use basics::Profile;
-use device_data::{Failure, discovery, error_log, field_discovery, identity_of, protocol_list};
+use device_data::{
+    Failure, Settings, device_log, discovery, error_log, field_discovery, identity_of,
+    protocol_list,
+};
 use fis::{H2D_LENGTH, H2D_TYPE, RegH2d, Tag};
 use history::ResetKind;
 use locking::{Op, RangeRow, Ranges};
@@ -27,7 +30,9 @@ use std::marker::Model;
 use std::mem::{replace, swap};
 use tper::{Tper, sized};
 use transactions::View;
-use trusted_cmds::{Command, SidBlock, is_block_sid, is_programmatic_reset};
+use trusted_cmds::{
+    Command, Feature, LogPages, SidBlock, is_block_sid, is_programmatic_reset,
+};
 
 /// Makes these the ranges that the rows describe, where they may be others.
 fn refresh_where(changes: bool, ranges: &mut Ranges, rows: &View<'_>)
@@ -50,6 +55,7 @@ pub struct Drive {
     tper: Tper,
     pub(crate) queue: Queue,
     pub(crate) media: Media,
+    settings: Settings,
     /// A vector for the bytes of the next read, or of the next response.
     spare: Vec<u8>,
 }
@@ -62,7 +68,7 @@ impl Model for Drive {
 
     ghost Value = { DriveState };
 
-    ghost view = { λ a. record { tper = a.tper; queue = a.queue; media = a.media } };
+    ghost view = { λ a. record { tper = a.tper; queue = a.queue; media = a.media; settings = a.settings } };
 
     ghost invariant = { λ a. (a.sectors ≤ 2 ^ 48)
         × (a.tper.store.config.sectors ≡ a.sectors)
@@ -84,6 +90,8 @@ impl Drive {
     ghost use Rattle.device_data.specs.ErrorLog.{sized, error_log as log_page};
     ghost use Rattle.device_data.specs.Protocols.{protocol_list as protocols_told};
     ghost use Rattle.device_data.specs.Identity.{identity_of as identity_in};
+    ghost use Rattle.device_data.specs.DevicePages.{device_log as pages_told};
+    ghost use Rattle.device_data.specs.Settings.{with_feature};
     ghost use Rattle.transactions.specs.Sights.{look_up, committed_sight};
     ghost use Rattle.history.specs.Opening.{Origin, origin_on, factory_origin, origin_with, opened_with};
     ghost use Rattle.history.specs.Agreement.{HasNoTries};
@@ -174,6 +182,7 @@ impl Drive {
             tper,
             queue: Queue::new(),
             media: Media::new(alloc, sectors),
+            settings: Settings::first(),
             spare: Vec::new(alloc),
         })
     }
@@ -337,6 +346,7 @@ impl Drive {
             → v.items ≡ held_bytes (kept_facts self.old f) held.now) }
         ensures tper { self.new.tper ≡ self.old.tper }
         ensures queue { self.new.queue ≡ self.old.queue }
+        ensures settings { self.new.settings ≡ self.old.settings }
         ensures media { OnOk result ((s : ℕ) → sector_at self.new.media s
             ≡ sector_then held.now.transfer payload.now (sector_at self.old.media s) s) }
         ensures err { OnErr result (self.new ≡ self.old) }
@@ -428,10 +438,28 @@ impl Drive {
 
     /// The data of IDENTIFY DEVICE.
     pub(crate) fn identify(&self) -> Result<Vec<u8>, AllocError>
-        ensures { IfOk result (λ v. v.items ≡ identity_in self.now.tper.store.config) }
+        ensures { IfOk result (λ v. v.items
+            ≡ identity_in self.now.tper.store.config self.now.settings) }
     {
         let view = self.tper.in_force();
-        identity_of(self.alloc, view.config())
+        identity_of(self.alloc, view.config(), &self.settings)
+    }
+
+    /// The data of pages of the logs that tell of the device.
+    pub(crate) fn device_log(&self, pages: &LogPages) -> Result<Vec<u8>, AllocError>
+        ensures { IfOk result (λ v. v.items
+            ≡ pages_told self.now.tper.store.config self.now.settings pages.now) }
+    {
+        let view = self.tper.in_force();
+        device_log(self.alloc, view.config(), &self.settings, pages)
+    }
+
+    /// Takes a feature as the host chose it.
+    pub(crate) fn choose(&mut self, feature: Feature)
+        ensures { self.new
+            ≡ record self.old { settings = with_feature feature self.old.settings } }
+    {
+        self.settings = self.settings.with(feature);
     }
 
     /// The data of log page 10h, which ends a failure.
@@ -725,6 +753,7 @@ impl Drive {
             → v.items ≡ heads (held_bytes (kept_facts self.old f) held.now)) }
         ensures tper { self.new.tper ≡ self.old.tper }
         ensures queue { self.new.queue ≡ self.old.queue }
+        ensures settings { self.new.settings ≡ self.old.settings }
         ensures media { OnOk result ((s : ℕ) → sector_at self.new.media s
             ≡ sector_then held.now.transfer
             (replicate (payload_size_of held.now.transfer) byte) (sector_at self.old.media s) s) }
@@ -775,7 +804,8 @@ impl Drive {
 
     /// Ends sessions and transactions, drops the responses that wait, what is held and the failure of
     /// the queue, locks what LockOnReset names, and makes Done 0 where DoneOnReset has the kind; a
-    /// power cycle makes all Tries 0 too, and frees SID. It takes no memory.
+    /// power cycle makes all Tries 0 too, and frees SID. What a host has chosen by SET FEATURES is as at
+    /// first. It takes no memory.
     pub fn reset(&mut self, kind: ResetKind)
         ensures agrees { (o : Origin) (acts : List Act) → Agrees self.old o acts
             → Agrees self.new o (Reset (reset_kind_number kind) ∷ acts) }
@@ -792,6 +822,7 @@ impl Drive {
     {
         self.tper.reset(kind);
         self.queue = Queue::new();
+        self.settings = self.settings.after_reset(kind);
         self.ranges.refresh(&self.tper.in_force());
     }
 }

@@ -8,7 +8,6 @@ use crate::decision::{Decision, Objection, objection_to};
 use crate::drive::Drive;
 use crate::reset::PROGRAMMATIC;
 use crate::transfer::Held;
-use device_data::device_page;
 use fis::{H2D_LENGTH, RegH2d, Tag};
 use shadow_mbr::SECTOR_SIZE;
 use std::alloc::AllocError;
@@ -154,10 +153,11 @@ impl Drive {
             Command::Identify => Ok((self.identify()?, Objection::none())),
             Command::ReadLog10 { .. } => Ok((self.read_log()?, Objection::none())),
             Command::Flush => Ok((Vec::new(self.allocator()), Objection::none())),
-            Command::SetFeatures => Ok((Vec::new(self.allocator()), Objection::none())),
-            Command::ReadLog { page, .. } => {
-                Ok((device_page(self.allocator(), &page)?, Objection::none()))
+            Command::SetFeatures { feature } => {
+                self.choose(feature);
+                Ok((Vec::new(self.allocator()), Objection::none()))
             }
+            Command::ReadLog { pages, .. } => Ok((self.device_log(&pages)?, Objection::none())),
             Command::ReadQueued { .. }
             | Command::WriteQueued { .. }
             | Command::ReadDma { .. }

@@ -32,7 +32,7 @@ served_active tag regs Identify = refl
 served_active tag regs (ReadLog10 true) = refl
 served_active tag regs (ReadLog10 false) = refl
 served_active tag regs Flush = refl
-served_active tag regs SetFeatures = refl
+served_active tag regs (SetFeatures feature) = refl
 served_active tag regs (ReadLog page true) = refl
 served_active tag regs (ReadLog page false) = refl
 
@@ -106,7 +106,7 @@ by_command missed tag regs (Receive protocol com_id blocks dma) = inl (served_sa
 by_command missed tag regs Identify = inl (served_same missed tag [] regs refl)
 by_command missed tag regs (ReadLog10 dma) = inl (served_same missed tag [] regs refl)
 by_command missed tag regs Flush = inl (served_same missed tag [] regs refl)
-by_command missed tag regs SetFeatures = inl (served_same missed tag [] regs refl)
+by_command missed tag regs (SetFeatures feature) = inl (served_same missed tag [] regs refl)
 by_command missed tag regs (ReadLog page dma) = inl (served_same missed tag [] regs refl)
 
 pub completed_told : (missed : Option Miss) (tag : ℕ) (regs : Registers) (held : Option HeldCommand)

@@ -124,7 +124,7 @@ served_words n Identify = tt
 served_words n (ReadLog10 true) = tt
 served_words n (ReadLog10 false) = tt
 served_words n Flush = tt
-served_words n SetFeatures = tt
+served_words n (SetFeatures feature) = tt
 served_words n (ReadLog page true) = tt
 served_words n (ReadLog page false) = tt
 
@@ -152,7 +152,7 @@ command_words tag (Receive protocol com_id blocks dma) t = tt
 command_words tag Identify t = tt
 command_words tag (ReadLog10 dma) t = tt
 command_words tag Flush t = tt
-command_words tag SetFeatures t = tt
+command_words tag (SetFeatures feature) t = tt
 command_words tag (ReadLog page dma) t = tt
 
 completed_words : (tag : ℕ) (held : Option HeldCommand) → tag < 32 → AreWords (completed_fises tag held)

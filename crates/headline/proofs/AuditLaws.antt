@@ -196,7 +196,7 @@ completion_denies u bytes (commands.Receive protocol com_id blocks dma) = refl
 completion_denies u bytes commands.Identify = refl
 completion_denies u bytes (commands.ReadLog10 dma) = refl
 completion_denies u bytes commands.Flush = refl
-completion_denies u bytes commands.SetFeatures = refl
+completion_denies u bytes (commands.SetFeatures feature) = refl
 completion_denies u bytes (commands.ReadLog page dma) = refl
 
 none_completed : (u : ℕ) (bytes : List ℕ) (h : Option HeldCommand) → (completed u bytes h).denied ≡ None

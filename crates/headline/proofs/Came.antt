@@ -110,7 +110,7 @@ queued_taken items f h bytes (Receive protocol com_id blocks dma) tag queued fre
 queued_taken items f h bytes Identify tag queued free = absurd cc
 queued_taken items f h bytes (ReadLog10 dma) tag queued free = absurd cc
 queued_taken items f h bytes Flush tag queued free = absurd cc
-queued_taken items f h bytes SetFeatures tag queued free = absurd cc
+queued_taken items f h bytes (SetFeatures feature) tag queued free = absurd cc
 queued_taken items f h bytes (ReadLog page dma) tag queued free = absurd cc
 
 -- A transfer that is executed whole.
@@ -155,5 +155,5 @@ executed_is items f payload (Receive protocol com_id blocks dma) tag x unqueued_
 executed_is items f payload Identify tag x unqueued_is is = absurd cc
 executed_is items f payload (ReadLog10 dma) tag x unqueued_is is = absurd cc
 executed_is items f payload Flush tag x unqueued_is is = absurd cc
-executed_is items f payload SetFeatures tag x unqueued_is is = absurd cc
+executed_is items f payload (SetFeatures feature) tag x unqueued_is is = absurd cc
 executed_is items f payload (ReadLog page dma) tag x unqueued_is is = absurd cc

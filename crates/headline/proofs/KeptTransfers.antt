@@ -241,7 +241,7 @@ known_unqueued items f h bytes command tag e = by_command command e
     by_command commands.Identify e = refl
     by_command (commands.ReadLog10 dma) e = refl
     by_command commands.Flush e = refl
-    by_command commands.SetFeatures e = refl
+    by_command (commands.SetFeatures feature) e = refl
     by_command (commands.ReadLog page dma) e = refl
 
 pub unqueued_event : (items : Items) (still : IsForPorts items) (o : Origin) (ms : List Moment) (u : ℕ) (put : Put) → u < 32 → Kept ms

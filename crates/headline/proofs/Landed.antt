@@ -183,7 +183,7 @@ executed_lands items f past content given (commands.Receive protocol com_id bloc
 executed_lands items f past content given commands.Identify unqueued_is long = tt
 executed_lands items f past content given (commands.ReadLog10 dma) unqueued_is long = tt
 executed_lands items f past content given commands.Flush unqueued_is long = tt
-executed_lands items f past content given commands.SetFeatures unqueued_is long = tt
+executed_lands items f past content given (commands.SetFeatures feature) unqueued_is long = tt
 executed_lands items f past content given (commands.ReadLog page dma) unqueued_is long = tt
 
 -- a completion
@@ -203,7 +203,7 @@ completed_lands u past content a (commands.Receive protocol com_id blocks dma) q
 completed_lands u past content a commands.Identify queued long = tt
 completed_lands u past content a (commands.ReadLog10 dma) queued long = tt
 completed_lands u past content a commands.Flush queued long = tt
-completed_lands u past content a commands.SetFeatures queued long = tt
+completed_lands u past content a (commands.SetFeatures feature) queued long = tt
 completed_lands u past content a (commands.ReadLog page dma) queued long = tt
 
 split : (items : Items) (o : Origin) (list : List Step) (u : ℕ) → LandedAt items o list u

@@ -188,7 +188,7 @@ executed_unmoved items f own content given (commands.Receive protocol com_id blo
 executed_unmoved items f own content given commands.Identify unqueued_is k = tt
 executed_unmoved items f own content given (commands.ReadLog10 dma) unqueued_is k = tt
 executed_unmoved items f own content given commands.Flush unqueued_is k = tt
-executed_unmoved items f own content given commands.SetFeatures unqueued_is k = tt
+executed_unmoved items f own content given (commands.SetFeatures feature) unqueued_is k = tt
 executed_unmoved items f own content given (commands.ReadLog page dma) unqueued_is k = tt
 
 -- A completion.
@@ -206,7 +206,7 @@ completed_unmoved u own content bytes (commands.Receive protocol com_id blocks d
 completed_unmoved u own content bytes commands.Identify queued k = tt
 completed_unmoved u own content bytes (commands.ReadLog10 dma) queued k = tt
 completed_unmoved u own content bytes commands.Flush queued k = tt
-completed_unmoved u own content bytes commands.SetFeatures queued k = tt
+completed_unmoved u own content bytes (commands.SetFeatures feature) queued k = tt
 completed_unmoved u own content bytes (commands.ReadLog page dma) queued k = tt
 
 split : (items : Items) (o : Origin) (list : List Step) (u : ℕ) → UnmovedAt items o list u

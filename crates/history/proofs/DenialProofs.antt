@@ -367,7 +367,7 @@ queued-is f act why (Receive p c b d) tag looked free h = absurd (nothing h)
 queued-is f act why Identify tag looked free h = absurd (nothing h)
 queued-is f act why (ReadLog10 d) tag looked free h = absurd (nothing h)
 queued-is f act why Flush tag looked free h = absurd (nothing h)
-queued-is f act why SetFeatures tag looked free h = absurd (nothing h)
+queued-is f act why (SetFeatures feature) tag looked free h = absurd (nothing h)
 queued-is f act why (ReadLog page dma) tag looked free h = absurd (nothing h)
 
 received-none : (com_id blocks : ℕ) (x : Option (List ℕ)) → (received com_id blocks x).denied ≡ None
@@ -401,7 +401,7 @@ unqueued-is f act why (WriteQueued l n) looked h = absurd (nothing h)
 unqueued-is f act why Identify looked h = absurd (nothing h)
 unqueued-is f act why (ReadLog10 d) looked h = absurd (nothing h)
 unqueued-is f act why Flush looked h = absurd (nothing h)
-unqueued-is f act why SetFeatures looked h = absurd (nothing h)
+unqueued-is f act why (SetFeatures feature) looked h = absurd (nothing h)
 unqueued-is f act why (ReadLog page dma) looked h = absurd (nothing h)
 
 looked-is : (f : Facts) (act : Act) (why : Why) (command : Command) (tag : Option ℕ) (looked : IsLookedAt f act command tag) → (looked_event tcg f (h2d_at looked.fis) looked.payload command tag).denied ≡ Some why → IsDenied f act why

@@ -16,7 +16,7 @@ use Rattle.trusted_cmds.specs.Commands.{fault_of, read_unless}
 use Rattle.locking.specs.declared.ranges.Verdict.{Verdict}
 use Rattle.locking.specs.declared.ranges.Verdict.TheVariants.{Serve, Shadow, Denied}
 use Rattle.device_data.specs.declared.log_page.Failure.{Failure}
-use Rattle.history.specs.Events.{HeldCommand, Held, Completed, CompletedWrite, QueueFailed, QueueMended, QueueEnded, Deed, Nothing, InSession, OfQueue, Wrote, Took, BlockedSid, WasReset, Event, did}
+use Rattle.history.specs.Events.{HeldCommand, Held, Completed, CompletedWrite, QueueFailed, QueueMended, QueueEnded, Deed, Nothing, InSession, OfQueue, Wrote, Took, BlockedSid, Chose, WasReset, Event, did}
 use Rattle.history.specs.Readers.{holding, held}
 use Rattle.history.specs.Facts.{Facts, facts}
 use Rattle.history.specs.Decisions.{not_found, aborted, fails, refuses, fails_queue, on_drive, ranges_in_force, verdict_on, queued_by, admitted, unqueued_by, is_trusted, is_session_com_id, discovery_com_id, received, while_failed, is_busy, completed_by, completed, resets, unqueued_of, known_of, commanded_of, is_received, unreceived}
@@ -64,6 +64,7 @@ holds-is tag (InSession d r) h g = cc
 holds-is tag (Wrote lba bytes) h g = cc
 holds-is tag (Took c) h g = cc
 holds-is tag (BlockedSid block) h g = cc
+holds-is tag (Chose feature) h g = cc
 holds-is tag (WasReset kind) h g = cc
 
 -- what is not queued holds nothing
@@ -126,7 +127,7 @@ admitted-is items f act tag t h (Receive p c b d) looked false g = absurd (not-h
 admitted-is items f act tag t h Identify looked false g = absurd (not-held refl g)
 admitted-is items f act tag t h (ReadLog10 d) looked false g = absurd (not-held refl g)
 admitted-is items f act tag t h Flush looked false g = absurd (not-held refl g)
-admitted-is items f act tag t h SetFeatures looked false g = absurd (not-held refl g)
+admitted-is items f act tag t h (SetFeatures feature) looked false g = absurd (not-held refl g)
 admitted-is items f act tag t h (ReadLog page dma) looked false g = absurd (not-held refl g)
 
 while_failed-none : (r : Result (Command × Option ℕ) CommandError) → is_holding (while_failed r).deed ≡ false

@@ -199,7 +199,7 @@ fresh_law o h = record {
     transactions = λ sp. refl;
   };
   sessions = record { sessions = λ sp. refl; authorities = λ sp session is a. absurd (nobody is); next = refl; block = refl };
-  queue = record { held = λ tag. refl; failure = refl; waiting = λ com_id. refl; sectors = λ place. refl };
+  queue = record { held = λ tag. refl; failure = refl; waiting = λ com_id. refl; sectors = λ place. refl; settings = refl };
 }
   where
     nobody : {A : Type 0} {x : A} → None ≡ Some x → ⊥

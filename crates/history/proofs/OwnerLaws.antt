@@ -21,7 +21,7 @@ use Rattle.transactions.specs.Resets.{is_range, locks_seen}
 use Rattle.sessions.specs.Deeds.{cells_set, bytes_set, Change, Sets, Restores, Resets, Begun, SessionDeed, Unchanged, Started, Tried, Changed, Began, Committed, Aborted, Ended, Activated, Reverted, Erased}
 use Rattle.history.specs.Changes.{reset_rows, apply, apply_all}
 use Rattle.sessions.specs.Starts.{is_in_use}
-use Rattle.history.specs.Events.{Response, Deed, Nothing, InSession, OfQueue, Wrote, Took, BlockedSid, WasReset, Event}
+use Rattle.history.specs.Events.{Response, Deed, Nothing, InSession, OfQueue, Wrote, Took, BlockedSid, Chose, WasReset, Event}
 use Rattle.history.specs.Readers.{restores, living, session_on, open_on, is_of, in_force, turns, begins, changes_on, own_changes, if_open, open_changes, only_on, unless_any_open, brought, changes, factory_rows}
 use Rattle.history.specs.History.{Act, event, log}
 use Rattle.history.specs.Deeds.{IsNew, is_set_in_admin, is_of_row, Begins, Changes, IsOutside, IsRevert, IsRevertSp, CanDo, OwnerLaw, LifeLaw, ActivateLaw, RevertLaw}
@@ -69,6 +69,7 @@ began-is sp (OfQueue d) n h = cc
 began-is sp (Wrote lba bytes) n h = cc
 began-is sp (Took c) n h = cc
 began-is sp (BlockedSid block) n h = cc
+began-is sp (Chose feature) n h = cc
 began-is sp (WasReset kind) n h = cc
 
 record StartedOn (sp : Sp) (d : Deed) : Type 0 where
@@ -105,6 +106,7 @@ start-is sp (OfQueue d) x h g = cc
 start-is sp (Wrote lba bytes) x h g = cc
 start-is sp (Took c) x h g = cc
 start-is sp (BlockedSid block) x h g = cc
+start-is sp (Chose feature) x h g = cc
 
 -- what brings a session is a start
 begun-is : (sp : Sp) (d : Deed) (s : Begun) → living sp d ≡ Some (Some s) → StartedOn sp d
@@ -137,6 +139,7 @@ begun-is sp (OfQueue d) s h = cc
 begun-is sp (Wrote lba bytes) s h = cc
 begun-is sp (Took c) s h = cc
 begun-is sp (BlockedSid block) s h = cc
+begun-is sp (Chose feature) s h = cc
 
 -- it leaves the state of the Locking SP
 abbrev spares : Change → Bool
@@ -173,6 +176,7 @@ changed-is sp (OfQueue d) c h = cc
 changed-is sp (Wrote lba bytes) c h = cc
 changed-is sp (Took x) c h = cc
 changed-is sp (BlockedSid block) c h = cc
+changed-is sp (Chose feature) c h = cc
 changed-is sp (WasReset kind) c h = cc
 
 -- what each past of acts keeps
@@ -313,6 +317,7 @@ brought-spare o es (OfQueue d) can own h = refl
 brought-spare o es (Wrote lba bytes) can own h = refl
 brought-spare o es (Took x) can own h = refl
 brought-spare o es (BlockedSid block) can own h = refl
+brought-spare o es (Chose feature) can own h = refl
 brought-spare o es (WasReset kind) can own h = refl
 
 -- an Activate that takes effect, or a Revert, by the session of the Locking SP
@@ -334,6 +339,7 @@ activation-is (OfQueue d) h = cc
 activation-is (Wrote lba bytes) h = cc
 activation-is (Took x) h = cc
 activation-is (BlockedSid block) h = cc
+activation-is (Chose feature) h = cc
 activation-is (WasReset kind) h = cc
 
 clash-bool : {b : Bool} → b ≡ true → b ≡ false → ⊥

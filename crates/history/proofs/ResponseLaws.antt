@@ -19,7 +19,7 @@ use Rattle.locking.specs.declared.ranges.Verdict.TheVariants.{Serve, Shadow, Den
 use Rattle.sessions.specs.Deeds.{Begun}
 use Rattle.trusted_cmds.specs.BlockSid.{is_block_sid, block_asked, is_blocked}
 use Rattle.device_data.specs.Discovery.{has_owner}
-use Rattle.history.specs.Events.{did, HeldCommand, Deed, Nothing, InSession, Wrote, Event, or_else, OfQueue, Took, BlockedSid, WasReset, latest, ignores}
+use Rattle.history.specs.Events.{did, HeldCommand, Deed, Nothing, InSession, Wrote, Event, or_else, OfQueue, Took, BlockedSid, Chose, WasReset, latest, ignores}
 use Rattle.history.specs.Facts.{Facts, facts, session_named}
 use Rattle.history.specs.Decisions.{aborted, not_found, fails, refuses, fails_queue, on_drive, verdict_on, queued_by, queued_transfer, admitted, unqueued_by, unqueued_transfer, is_trusted, is_session_com_id, discovery_com_id, received, while_failed, is_busy, completed_by, completed, resets, is_received, unreceived}
 use Rattle.history.specs.Tcg.{answers, to_manager, is_manager, to_session, framed, sent, unqueued, known, commanded, command_read, blocks_sid, unsent}
@@ -143,6 +143,7 @@ left-none : (com_id : ℕ) (d : Deed) (past : List Event) → is_session_com_id 
 left-none com_id (InSession deed response) past other on h = ap (λ b. left com_id (cond b (Some (Some response.bytes)) None) past) (apart com_id response.com_id other on) ∙ h
 left-none com_id (Took its) past other on h = taken com_id its past (its == com_id) h
 left-none com_id (BlockedSid block) past other on h = h
+left-none com_id (Chose feature) past other on h = h
 left-none com_id (WasReset kind) past other on h = refl
 left-none com_id Nothing past other on h = h
 left-none com_id (OfQueue d) past other on h = h

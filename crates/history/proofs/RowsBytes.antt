@@ -39,7 +39,7 @@ discovery_bytes : accepted_data (facts new_drive []) (fis 0x5d 1 0x100 1) (event
 unfolding any_range_below admin_sps admin_authorities locking_authorities admin_pins locking_pins locking_ranges locking_mbr_controls admin_aces authority_aces pin_aces range_get_aces range_aces mbr_aces this_sp_grants owner_grants authority_grants fixed_ace_gets user_ace_grants read_locked_ace_grants write_locked_ace_grants done_ace_grants pin_grants range_get_ace_grants range_get_grants range_set_grants mbr_grants first_lexeme expect number_at uid_at values_up_to list_with list_value_with named_with value_after_token list_at status_at call_at reply_at message_at message_in number_spelling bytes_spelling any_below ranges_in verdict_of is_range listed_among cells_for zeros sectors_from authorities_of_locking any_to
 discovery_bytes = refl
 
-identity_bytes : identity_of (facts new_drive []).config ≡ replicate 96 0 ++ 0x01 ∷ 0x40 ∷ replicate 52 0 ++ 0x1f ∷ 0 ∷ 0 ∷ 0x01 ∷ replicate 12 0 ++ 0 ∷ 0x64 ∷ replicate 32 0 ++ 0xe8 ∷ 0x03 ∷ replicate 310 0
+identity_bytes : identity_of (facts new_drive []).config (facts new_drive []).settings ≡ replicate 96 0 ++ 0x01 ∷ 0x40 ∷ replicate 52 0 ++ 0x1f ∷ 0 ∷ 0 ∷ 0x01 ∷ replicate 12 0 ++ 0 ∷ 0x64 ∷ replicate 32 0 ++ 0xe8 ∷ 0x03 ∷ replicate 310 0
 unfolding any_range_below admin_sps admin_authorities locking_authorities admin_pins locking_pins locking_ranges locking_mbr_controls admin_aces authority_aces pin_aces range_get_aces range_aces mbr_aces this_sp_grants owner_grants authority_grants fixed_ace_gets user_ace_grants read_locked_ace_grants write_locked_ace_grants done_ace_grants pin_grants range_get_ace_grants range_get_grants range_set_grants mbr_grants first_lexeme expect number_at uid_at values_up_to list_with list_value_with named_with value_after_token list_at status_at call_at reply_at message_at message_in number_spelling bytes_spelling any_below ranges_in verdict_of is_range listed_among cells_for zeros sectors_from authorities_of_locking any_to
 identity_bytes = refl
 

@@ -24,7 +24,7 @@ use Rattle.sessions.specs.Deeds.{Begun, SessionDeed, Reverted}
 use Rattle.trusted_cmds.specs.BlockSid.{is_block_sid, block_asked, is_blocked}
 use Rattle.device_data.specs.Discovery.{has_owner}
 use Rattle.history.specs.Opening.{Origin}
-use Rattle.history.specs.Events.{did, HeldCommand, Deed, Nothing, InSession, Wrote, Event, or_else, OfQueue, Took, BlockedSid, WasReset, latest, CompletedWrite, Completed, Held, QueueFailed, QueueMended, QueueEnded, ignores}
+use Rattle.history.specs.Events.{did, HeldCommand, Deed, Nothing, InSession, Wrote, Event, or_else, OfQueue, Took, BlockedSid, Chose, WasReset, latest, CompletedWrite, Completed, Held, QueueFailed, QueueMended, QueueEnded, ignores}
 use Rattle.history.specs.Facts.{Facts, facts, session_named}
 use Rattle.history.specs.Decisions.{aborted, not_found, fails, refuses, fails_queue, on_drive, verdict_on, queued_by, queued_transfer, admitted, unqueued_by, unqueued_transfer, is_trusted, is_session_com_id, discovery_com_id, received, while_failed, is_busy, completed_by, completed, resets, is_received, unreceived}
 use Rattle.history.specs.Tcg.{answers, to_manager, is_manager, to_session, framed, sent, unqueued, known, commanded, tcg, command_read, blocks_sid, unsent}
@@ -274,6 +274,7 @@ deed-left f act place past (InSession d r) fed le is h rest = erased-left place 
 deed-left f act place past Nothing fed le is h rest = rest
 deed-left f act place past (Took c) fed le is h rest = rest
 deed-left f act place past (BlockedSid block) fed le is h rest = rest
+deed-left f act place past (Chose feature) fed le is h rest = rest
 deed-left f act place past (WasReset kind) fed le is h rest = rest
 
 completed-left : (o : Origin) (acts : List Act) (tag place : ℕ) (payload : List ℕ) (x : Option HeldCommand) → (facts o (log o acts)).held tag ≡ x → length payload ≡ expected x → o.tables.config.sectors ≤ place → sector (log o acts) place ≡ zeros
@@ -292,7 +293,7 @@ completed-left o acts tag place payload (Some h) is size le rest = by_command h.
     by_command Identify command = rest
     by_command (ReadLog10 d) command = rest
     by_command Flush command = rest
-    by_command SetFeatures command = rest
+    by_command (SetFeatures feature) command = rest
     by_command (ReadLog page dma) command = rest
 
 accept-quiet : (f : Facts) (fis payload : List ℕ) → quiet (event_by f (Accept fis payload)).deed ≡ true

@@ -12,7 +12,7 @@ use Rattle.trusted_cmds.specs.declared.command.CommandError.{CommandError}
 use Rattle.locking.specs.declared.ranges.Verdict.{Verdict}
 use Rattle.locking.specs.declared.ranges.Verdict.TheVariants.{Serve, Shadow, Denied}
 use Rattle.device_data.specs.declared.log_page.Failure.{Failure}
-use Rattle.history.specs.Events.{HeldCommand, Deed, Nothing, InSession, OfQueue, Wrote, Took, BlockedSid, Event, did, WasReset}
+use Rattle.history.specs.Events.{HeldCommand, Deed, Nothing, InSession, OfQueue, Wrote, Took, BlockedSid, Chose, Event, did, WasReset}
 use Rattle.history.specs.Facts.{Facts}
 use Rattle.history.specs.Decisions.{not_found, aborted, fails, refuses, fails_queue, on_drive, ranges_in_force, verdict_on, queued_by, admitted, unqueued_by, is_trusted, is_session_com_id, discovery_com_id, received, while_failed, is_busy, completed_by, completed, resets, unqueued_of, known_of, commanded_of, is_received, unreceived}
 use Rattle.history.specs.Items.{Items}
@@ -50,6 +50,7 @@ quiet-none (OfQueue deed) h = refl
 quiet-none (Wrote lba bytes) h = cc
 quiet-none (Took com_id) h = refl
 quiet-none (BlockedSid block) h = refl
+quiet-none (Chose feature) h = refl
 quiet-none (WasReset kind) h = refl
 
 received-none : (com_id blocks : ℕ) (x : Option (List ℕ)) → is_write (received com_id blocks x).deed ≡ false
@@ -85,7 +86,7 @@ unqueued-is items still f act lba bytes (WriteQueued l n) looked g = absurd (not
 unqueued-is items still f act lba bytes Identify looked g = absurd (not-write refl g)
 unqueued-is items still f act lba bytes (ReadLog10 d) looked g = absurd (not-write refl g)
 unqueued-is items still f act lba bytes Flush looked g = absurd (not-write refl g)
-unqueued-is items still f act lba bytes SetFeatures looked g = absurd (not-write refl g)
+unqueued-is items still f act lba bytes (SetFeatures feature) looked g = absurd (not-write refl g)
 unqueued-is items still f act lba bytes (ReadLog page dma) looked g = absurd (not-write refl g)
 
 queued-none : (h : RegH2d) (tag : ℕ) (c : Command) (b : Bool) (v : Verdict) → is_write (cond b (queued_by h tag c v) (fails_queue (Some tag) not_found h None (Some BeyondDrive))).deed ≡ false

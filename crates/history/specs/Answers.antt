@@ -35,7 +35,7 @@ block_of items f (ReadLog10 dma) = error_log f.failure
 block_of items f (Receive protocol com_id blocks dma) =
     items.gives f (Receive protocol com_id blocks dma)
 block_of items f Identify = items.gives f Identify
-block_of items f (ReadLog page dma) = items.gives f (ReadLog page dma)
+block_of items f (ReadLog pages dma) = items.gives f (ReadLog pages dma)
 block_of items f _ = []
 
 abbrev pub data_read_of : Items → Facts → Result (Command × Option ℕ) CommandError → List ℕ
@@ -131,7 +131,7 @@ abbrev pub served_fises : Command → List Fis
 served_fises (Send protocol com_id blocks false) = pio_fis false busy ∷ answer_fis true ready 0 ∷ []
 served_fises (Receive protocol com_id blocks false) = pio_fis true ready ∷ []
 served_fises (ReadLog10 false) = pio_fis true ready ∷ []
-served_fises (ReadLog page false) = pio_fis true ready ∷ []
+served_fises (ReadLog pages false) = pio_fis true ready ∷ []
 served_fises Identify = pio_fis true ready ∷ []
 served_fises _ = answer_fis true ready 0 ∷ []
 

@@ -29,7 +29,7 @@ use Rattle.locking.specs.declared.ranges.Verdict.TheVariants.{Serve, Shadow, Den
 use Rattle.locking.specs.Range.{RangeRows}
 use Rattle.locking.specs.Ranges.{ranges_in}
 use Rattle.locking.specs.Verdict.{verdict_of}
-use Rattle.history.specs.Events.{HeldCommand, Held, Completed, CompletedWrite, QueueFailed, QueueMended, Deed, Nothing, OfQueue, Wrote, Took, WasReset, Event, did}
+use Rattle.history.specs.Events.{HeldCommand, Held, Completed, CompletedWrite, QueueFailed, QueueMended, Deed, Nothing, OfQueue, Wrote, Took, WasReset, Chose, Event, did}
 use Rattle.history.specs.Facts.{Facts}
 use Rattle.history.specs.Items.{Items}
 
@@ -171,8 +171,8 @@ unqueued_of items f payload (Receive protocol com_id blocks dma) = receive f pro
 unqueued_of items f payload Identify = did Nothing
 unqueued_of items f payload (ReadLog10 dma) = did Nothing
 unqueued_of items f payload Flush = did Nothing
-unqueued_of items f payload SetFeatures = did Nothing
-unqueued_of items f payload (ReadLog page dma) = did Nothing
+unqueued_of items f payload (SetFeatures feature) = did (Chose feature)
+unqueued_of items f payload (ReadLog pages dma) = did Nothing
 unqueued_of items f payload (ReadQueued lba count) = refuses NoCommand
 unqueued_of items f payload (WriteQueued lba count) = refuses NoCommand
 

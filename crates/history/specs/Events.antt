@@ -6,6 +6,7 @@ use Rattle.audit.specs.declared.reason.Why.{Why}
 use Rattle.audit.specs.declared.rules.rule.Rule.{Rule}
 use Rattle.trusted_cmds.specs.declared.command.Command.{Command}
 use Rattle.trusted_cmds.specs.declared.block.SidBlock.{SidBlock}
+use Rattle.trusted_cmds.specs.declared.feature.Feature.{Feature}
 use Rattle.locking.specs.declared.ranges.Verdict.{Verdict}
 use Rattle.device_data.specs.declared.log_page.Failure.{Failure}
 use Rattle.sessions.specs.Deeds.{SessionDeed}
@@ -43,6 +44,8 @@ pub data Deed : Type 0 where
   WasReset : (kind : ℕ) → Deed
   -- attempts on SID were blocked
   BlockedSid : (block : SidBlock) → Deed
+  -- a host chose a feature
+  Chose : (feature : Feature) → Deed
 
 pub record Event : Type 0 where
   -- the error of a command that failed

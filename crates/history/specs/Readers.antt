@@ -26,7 +26,9 @@ use Rattle.sessions.specs.Deeds.{cells_set, Change, Sets, Restores, Resets, Begu
 use Rattle.sessions.specs.Block.{block_after, block_at_reset}
 use Rattle.history.specs.Changes.{apply_all, byte_in, with_tries}
 use Rattle.device_data.specs.declared.log_page.Failure.{Failure}
-use Rattle.history.specs.Events.{HeldCommand, QueueDeed, Held, Completed, CompletedWrite, QueueFailed, QueueMended, QueueEnded, Deed, InSession, OfQueue, Wrote, Took, WasReset, BlockedSid, Event, latest, since, every, count}
+use Rattle.device_data.specs.declared.settings.Settings.{Settings}
+use Rattle.device_data.specs.Settings.{first_settings, with_feature, settings_at_reset}
+use Rattle.history.specs.Events.{HeldCommand, QueueDeed, Held, Completed, CompletedWrite, QueueFailed, QueueMended, QueueEnded, Deed, InSession, OfQueue, Wrote, Took, WasReset, BlockedSid, Chose, Event, latest, since, every, count}
 
 -- It speaks of this SP.
 abbrev pub on_sp : {A : Type 0} → Sp → Sp → A → Option A
@@ -226,6 +228,17 @@ block_then _ before = before
 abbrev pub sid_block : List Event → SidBlock
 sid_block [] = Free
 sid_block (event ∷ before) = block_then event.deed (sid_block before)
+
+-- What a host has chosen of the drive's interface (ACS-3, SET FEATURES).
+
+abbrev pub settings_then : Deed → Settings → Settings
+settings_then (Chose feature) before = with_feature feature before
+settings_then (WasReset kind) before = settings_at_reset kind before
+settings_then _ before = before
+
+abbrev pub settings : List Event → Settings
+settings [] = first_settings
+settings (event ∷ before) = settings_then event.deed (settings before)
 
 -- Rows and the shadow's bytes, in force and in a session's view (Core 2.01, section 3.3.9; Opal
 -- SSC 2.01, section 4.3.5.4).

@@ -6,7 +6,7 @@ use Rattle.tcg_tokens.specs.Lex.{begins_with_end}
 use Rattle.device_data.specs.Protocols.{protocol_list}
 use Rattle.trusted_cmds.specs.Commands.{is_protocol_list}
 use Rattle.trusted_cmds.specs.BlockSid.{is_block_sid, block_asked, is_blocked}
-use Rattle.device_data.specs.DevicePages.{device_page}
+use Rattle.device_data.specs.DevicePages.{device_log}
 use Rattle.std.specs.Prelude.{ℕ, zero, suc, ◌*◌, ◌==◌, Bool, true, false, not, ◌&&◌, ◌||◌, nat_le, List, [], length, Option, Some, None, is_some, Result, Ok, Err, if◌then◌else◌}
 use Rattle.fis.specs.declared.any.Fis.{Fis}
 use Rattle.fis.specs.declared.h2d.RegH2d.{RegH2d}
@@ -219,8 +219,8 @@ item_data f (Receive protocol com_id blocks dma) =
     if is_protocol_list (Receive protocol com_id blocks dma)
     then sized (sector_size * blocks) protocol_list
     else receive_data f com_id (sector_size * blocks)
-item_data f Identify = identity_of f.config
-item_data f (ReadLog page dma) = device_page page
+item_data f Identify = identity_of f.config f.settings
+item_data f (ReadLog pages dma) = device_log f.config f.settings pages
 item_data f _ = []
 
 -- The command of a FIS (ACS-3).

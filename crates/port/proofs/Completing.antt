@@ -94,7 +94,7 @@ no_line n tag put bytes (Some h) fises content = by_command h.command
     by_command Identify = refl
     by_command (ReadLog10 dma) = refl
     by_command Flush = refl
-    by_command SetFeatures = refl
+    by_command (SetFeatures feature) = refl
     by_command (ReadLog page dma) = refl
 
 -- what the drive holds is what the past holds

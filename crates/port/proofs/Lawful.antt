@@ -44,7 +44,7 @@ is_command_fis (commands.Receive protocol com_id blocks dma) tag = refl
 is_command_fis commands.Identify tag = refl
 is_command_fis (commands.ReadLog10 dma) tag = refl
 is_command_fis commands.Flush tag = refl
-is_command_fis commands.SetFeatures tag = refl
+is_command_fis (commands.SetFeatures feature) tag = refl
 is_command_fis (commands.ReadLog page dma) tag = refl
 
 pub issued_moves : (o : Origin) (list : List Step) (tag : ℕ) (put : Put) → IsLawful o list
@@ -69,7 +69,7 @@ brought_small (commands.Receive protocol com_id blocks dma) few = omega arith
 brought_small commands.Identify few = omega arith
 brought_small (commands.ReadLog10 dma) few = omega arith
 brought_small commands.Flush few = omega arith
-brought_small commands.SetFeatures few = omega arith
+brought_small (commands.SetFeatures feature) few = omega arith
 brought_small (commands.ReadLog page dma) few = omega arith
 
 unqueued_small : (b : Bool) (n : ℕ) → n ≤ buffer_size → (if b then 0 else n) ≤ buffer_size

@@ -117,7 +117,7 @@ fn is_to_device(command: Command) -> bool
         | Command::Identify
         | Command::ReadLog10 { .. }
         | Command::Flush
-        | Command::SetFeatures
+        | Command::SetFeatures { .. }
         | Command::ReadLog { .. } => false,
     }
 }
@@ -133,8 +133,9 @@ fn bytes_moved(command: Command) -> u32
         | Command::ReadDma { count, .. }
         | Command::WriteDma { count, .. } => count,
         Command::Send { blocks, .. } | Command::Receive { blocks, .. } => u32::from(blocks),
-        Command::Identify | Command::ReadLog10 { .. } | Command::ReadLog { .. } => 1,
-        Command::Flush | Command::SetFeatures => 0,
+        Command::Identify | Command::ReadLog10 { .. } => 1,
+        Command::ReadLog { pages, .. } => u32::from(pages.count()),
+        Command::Flush | Command::SetFeatures { .. } => 0,
     };
     SECTOR_SIZE as u32 * blocks
 }

@@ -16,7 +16,7 @@ use Rattle.trusted_cmds.specs.declared.command.Command.TheVariants.{ReadQueued, 
 use Rattle.trusted_cmds.specs.declared.command.CommandError.{CommandError}
 use Rattle.trusted_cmds.specs.Commands.{fis_of, tag_with, sector_size, is_queued as is_queued_code}
 use Rattle.history.specs.Opening.{Origin}
-use Rattle.history.specs.Events.{QueueMended, Deed, Nothing, InSession, OfQueue, Wrote, Took, BlockedSid, WasReset, Event, did, or_else, latest}
+use Rattle.history.specs.Events.{QueueMended, Deed, Nothing, InSession, OfQueue, Wrote, Took, BlockedSid, Chose, WasReset, Event, did, or_else, latest}
 use Rattle.history.specs.Readers.{holding, held, failing, failure}
 use Rattle.history.specs.Items.{Items}
 use Rattle.history.specs.Quiet.{is_quiet}
@@ -49,7 +49,7 @@ commands_of (Receive protocol com_id blocks dma) tag = refl
 commands_of Identify tag = refl
 commands_of (ReadLog10 dma) tag = refl
 commands_of Flush tag = refl
-commands_of SetFeatures tag = refl
+commands_of (SetFeatures feature) tag = refl
 commands_of (ReadLog page dma) tag = refl
 
 code_of : (command : Command) (tag : ℕ)
@@ -66,7 +66,7 @@ code_of Identify tag = refl
 code_of (ReadLog10 true) tag = refl
 code_of (ReadLog10 false) tag = refl
 code_of Flush tag = refl
-code_of SetFeatures tag = refl
+code_of (SetFeatures feature) tag = refl
 code_of (ReadLog page true) tag = refl
 code_of (ReadLog page false) tag = refl
 
@@ -184,7 +184,7 @@ known-either items f h bytes (Receive protocol com_id blocks dma) tag queued fre
 known-either items f h bytes Identify tag queued free = absurd cc
 known-either items f h bytes (ReadLog10 dma) tag queued free = absurd cc
 known-either items f h bytes Flush tag queued free = absurd cc
-known-either items f h bytes SetFeatures tag queued free = absurd cc
+known-either items f h bytes (SetFeatures feature) tag queued free = absurd cc
 known-either items f h bytes (ReadLog page dma) tag queued free = absurd cc
 
 -- no data come with a tag
@@ -199,7 +199,7 @@ no-data items f (Receive protocol com_id blocks dma) tag queued = absurd cc
 no-data items f Identify tag queued = absurd cc
 no-data items f (ReadLog10 dma) tag queued = absurd cc
 no-data items f Flush tag queued = absurd cc
-no-data items f SetFeatures tag queued = absurd cc
+no-data items f (SetFeatures feature) tag queued = absurd cc
 no-data items f (ReadLog page dma) tag queued = absurd cc
 
 -- The FIS of a queued command, on a free tag.
@@ -260,6 +260,7 @@ is_of_queue (OfQueue deed) = true
 is_of_queue (Wrote lba bytes) = false
 is_of_queue (Took com_id) = false
 is_of_queue (BlockedSid block) = false
+is_of_queue (Chose feature) = false
 is_of_queue (WasReset kind) = false
 
 abbrev pub executed_fis : Command → Option ℕ → Fis
@@ -299,6 +300,7 @@ of-items (OfQueue deed) h = absurd cc
 of-items (Wrote lba bytes) h = refl
 of-items (Took com_id) h = refl
 of-items (BlockedSid block) h = refl
+of-items (Chose feature) h = refl
 of-items (WasReset kind) h = refl
 
 received-quiet : (com_id blocks : ℕ) (x : Option (List ℕ))
@@ -326,7 +328,7 @@ unqueued-quiet items still f payload (Receive protocol com_id blocks dma) =
 unqueued-quiet items still f payload Identify = refl
 unqueued-quiet items still f payload (ReadLog10 dma) = refl
 unqueued-quiet items still f payload Flush = refl
-unqueued-quiet items still f payload SetFeatures = refl
+unqueued-quiet items still f payload (SetFeatures feature) = refl
 unqueued-quiet items still f payload (ReadLog page dma) = refl
 unqueued-quiet items still f payload (ReadQueued lba count) = refl
 unqueued-quiet items still f payload (WriteQueued lba count) = refl
@@ -339,6 +341,7 @@ holds_nothing (OfQueue deed) quiet = absurd cc
 holds_nothing (Wrote lba bytes) quiet = refl
 holds_nothing (Took com_id) quiet = refl
 holds_nothing (BlockedSid block) quiet = refl
+holds_nothing (Chose feature) quiet = refl
 holds_nothing (WasReset kind) quiet = refl
 
 -- the queue is as before
@@ -351,6 +354,7 @@ held_stays (OfQueue deed) past tag quiet none = absurd cc
 held_stays (Wrote lba bytes) past tag quiet none = refl
 held_stays (Took com_id) past tag quiet none = refl
 held_stays (BlockedSid block) past tag quiet none = refl
+held_stays (Chose feature) past tag quiet none = refl
 held_stays (WasReset kind) past tag quiet none = sym none
 
 failure_stays : (d : Deed) (past : List Event) → is_of_queue d ≡ false → failure past ≡ None
@@ -361,6 +365,7 @@ failure_stays (OfQueue deed) past quiet none = absurd cc
 failure_stays (Wrote lba bytes) past quiet none = refl
 failure_stays (Took com_id) past quiet none = refl
 failure_stays (BlockedSid block) past quiet none = refl
+failure_stays (Chose feature) past quiet none = refl
 failure_stays (WasReset kind) past quiet none = sym none
 
 known-unqueued : (items : Items) (f : Facts) (h : RegH2d) (bytes : List ℕ) (command : Command) (tag : ℕ)
@@ -376,7 +381,7 @@ known-unqueued items f h bytes (Receive protocol com_id blocks dma) tag unqueued
 known-unqueued items f h bytes Identify tag unqueued = refl
 known-unqueued items f h bytes (ReadLog10 dma) tag unqueued = refl
 known-unqueued items f h bytes Flush tag unqueued = refl
-known-unqueued items f h bytes SetFeatures tag unqueued = refl
+known-unqueued items f h bytes (SetFeatures feature) tag unqueued = refl
 known-unqueued items f h bytes (ReadLog page dma) tag unqueued = refl
 
 served-fis : (command : Command) (tag : ℕ) → is_queued_command command ≡ false → is_of_request command ≡ true
@@ -392,7 +397,7 @@ served-fis (Receive protocol com_id blocks false) tag unqueued asked = absurd cc
 served-fis Identify tag unqueued asked = refl
 served-fis (ReadLog10 dma) tag unqueued asked = absurd cc
 served-fis Flush tag unqueued asked = refl
-served-fis SetFeatures tag unqueued asked = absurd cc
+served-fis (SetFeatures feature) tag unqueued asked = absurd cc
 served-fis (ReadLog page dma) tag unqueued asked = absurd cc
 
 failed-fis : (command : Command) (error : ℕ)
@@ -406,7 +411,7 @@ failed-fis (Receive protocol com_id blocks dma) error = refl
 failed-fis Identify error = refl
 failed-fis (ReadLog10 dma) error = refl
 failed-fis Flush error = refl
-failed-fis SetFeatures error = refl
+failed-fis (SetFeatures feature) error = refl
 failed-fis (ReadLog page dma) error = refl
 
 read-data : (f : Facts) (command : Command) (tag : ℕ) → is_queued_command command ≡ false
@@ -423,7 +428,7 @@ read-data f (Receive protocol com_id blocks dma) tag unqueued whole =
 read-data f Identify tag unqueued whole = data-fits f Identify whole
 read-data f (ReadLog10 dma) tag unqueued whole = data-fits f (ReadLog10 dma) whole
 read-data f Flush tag unqueued whole = data-fits f Flush whole
-read-data f SetFeatures tag unqueued whole = data-fits f SetFeatures whole
+read-data f (SetFeatures feature) tag unqueued whole = data-fits f (SetFeatures feature) whole
 read-data f (ReadLog page dma) tag unqueued whole = data-fits f (ReadLog page dma) whole
 
 fises-by : (command : Command) (fis : List ℕ) (read : List Fis) (d : Deed) (e : Option ℕ)

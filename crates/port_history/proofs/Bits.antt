@@ -110,7 +110,7 @@ executed-words tag regs (Receive protocol com_id blocks dma) = ready-words tag r
 executed-words tag regs Identify = pio-words tag regs
 executed-words tag regs (ReadLog10 dma) = ready-words tag regs true
 executed-words tag regs Flush = ready-words tag regs true
-executed-words tag regs SetFeatures = ready-words tag regs true
+executed-words tag regs (SetFeatures feature) = ready-words tag regs true
 executed-words tag regs (ReadLog page dma) = ready-words tag regs true
 
 pub failing-words : (tag : ℕ) (regs : Regs) (command : Command) (error : ℕ)
@@ -124,7 +124,7 @@ failing-words tag regs (Receive protocol com_id blocks dma) error = failed-words
 failing-words tag regs Identify error = failed-words tag regs error
 failing-words tag regs (ReadLog10 dma) error = failed-words tag regs error
 failing-words tag regs Flush error = failed-words tag regs error
-failing-words tag regs SetFeatures error = failed-words tag regs error
+failing-words tag regs (SetFeatures feature) error = failed-words tag regs error
 failing-words tag regs (ReadLog page dma) error = failed-words tag regs error
 
 -- the two FISes of a completion
@@ -152,5 +152,5 @@ completed-words tag regs (Receive protocol com_id blocks dma) queued = absurd cc
 completed-words tag regs Identify queued = absurd cc
 completed-words tag regs (ReadLog10 dma) queued = absurd cc
 completed-words tag regs Flush queued = absurd cc
-completed-words tag regs SetFeatures queued = absurd cc
+completed-words tag regs (SetFeatures feature) queued = absurd cc
 completed-words tag regs (ReadLog page dma) queued = absurd cc

@@ -81,7 +81,7 @@ expected-brought (Receive protocol com_id blocks dma) queued = absurd cc
 expected-brought Identify queued = absurd cc
 expected-brought (ReadLog10 dma) queued = absurd cc
 expected-brought Flush queued = absurd cc
-expected-brought SetFeatures queued = absurd cc
+expected-brought (SetFeatures feature) queued = absurd cc
 expected-brought (ReadLog page dma) queued = absurd cc
 
 -- The act of a lawful step brings what its command wants.

@@ -120,7 +120,7 @@ fis_back (Receive protocol com_id blocks dma) tag = with-back _ _ _ _ _
 fis_back Identify tag = with-back _ _ _ _ _
 fis_back (ReadLog10 dma) tag = with-back _ _ _ _ _
 fis_back Flush tag = with-back _ _ _ _ _
-fis_back SetFeatures tag = with-back _ _ _ _ _
+fis_back (SetFeatures feature) tag = with-back _ _ _ _ _
 fis_back (ReadLog page dma) tag = with-back _ _ _ _ _
 
 -- a count of sectors, from its field
@@ -169,7 +169,7 @@ reads Identify tag lt sized = refl
 reads (ReadLog10 true) tag lt sized = refl
 reads (ReadLog10 false) tag lt sized = refl
 reads Flush tag lt sized = refl
-reads SetFeatures tag lt sized = absurd (unasked sized.asked)
+reads (SetFeatures feature) tag lt sized = absurd (unasked sized.asked)
 reads (ReadLog page dma) tag lt sized = absurd (unasked sized.asked)
 
 pub read_as-queued : (command : Command) → is_queued_command (read_as command) ≡ is_queued_command command
@@ -182,7 +182,7 @@ read_as-queued (Receive protocol com_id blocks dma) = refl
 read_as-queued Identify = refl
 read_as-queued (ReadLog10 dma) = refl
 read_as-queued Flush = refl
-read_as-queued SetFeatures = refl
+read_as-queued (SetFeatures feature) = refl
 read_as-queued (ReadLog page dma) = refl
 
 pub read_as-tag : (command : Command) (tag : ℕ)
@@ -196,7 +196,7 @@ read_as-tag (Receive protocol com_id blocks dma) tag = refl
 read_as-tag Identify tag = refl
 read_as-tag (ReadLog10 dma) tag = refl
 read_as-tag Flush tag = refl
-read_as-tag SetFeatures tag = refl
+read_as-tag (SetFeatures feature) tag = refl
 read_as-tag (ReadLog page dma) tag = refl
 
 -- How many bytes go to the device with a command.
@@ -221,7 +221,7 @@ payload_is Identify tag counted most = refl
 payload_is (ReadLog10 true) tag counted most = refl
 payload_is (ReadLog10 false) tag counted most = refl
 payload_is Flush tag counted most = refl
-payload_is SetFeatures tag counted most = refl
+payload_is (SetFeatures feature) tag counted most = refl
 payload_is (ReadLog page true) tag counted most = refl
 payload_is (ReadLog page false) tag counted most = refl
 
@@ -239,7 +239,7 @@ not-short Identify tag = refl
 not-short (ReadLog10 true) tag = refl
 not-short (ReadLog10 false) tag = refl
 not-short Flush tag = refl
-not-short SetFeatures tag = refl
+not-short (SetFeatures feature) tag = refl
 not-short (ReadLog page true) tag = refl
 not-short (ReadLog page false) tag = refl
 

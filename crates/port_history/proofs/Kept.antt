@@ -623,7 +623,7 @@ freed u t bytes (commands.Receive protocol com_id blocks dma) past = freed_by t 
 freed u t bytes commands.Identify past = freed_by t past (u == t)
 freed u t bytes (commands.ReadLog10 dma) past = freed_by t past (u == t)
 freed u t bytes commands.Flush past = freed_by t past (u == t)
-freed u t bytes commands.SetFeatures past = freed_by t past (u == t)
+freed u t bytes (commands.SetFeatures feature) past = freed_by t past (u == t)
 freed u t bytes (commands.ReadLog page dma) past = freed_by t past (u == t)
 
 pub failure_moved : (u : ℕ) (bytes : List ℕ) (command : Command) (past : List Event)
@@ -637,7 +637,7 @@ failure_moved u bytes (commands.Receive protocol com_id blocks dma) past = refl
 failure_moved u bytes commands.Identify past = refl
 failure_moved u bytes (commands.ReadLog10 dma) past = refl
 failure_moved u bytes commands.Flush past = refl
-failure_moved u bytes commands.SetFeatures past = refl
+failure_moved u bytes (commands.SetFeatures feature) past = refl
 failure_moved u bytes (commands.ReadLog page dma) past = refl
 
 pub kept_complete : (ms : List Moment) (u : ℕ) (put : Put) (e : Effect) (bytes : List ℕ) → u < 32

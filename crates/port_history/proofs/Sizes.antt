@@ -1,17 +1,20 @@
 -- How many bytes the drive gives.
-use Rattle.trusted_cmds.specs.Commands.{is_protocol_list}
+use Rattle.trusted_cmds.specs.Commands.{is_protocol_list, pages_asked}
 use Rattle.device_data.specs.Protocols.{protocol_list}
 use Rattle.sp_cells.specs.Config.{Config}
 use Rattle.basics.specs.declared.profile.Profile.TheVariants.{Base, Field}
 use Rattle.basics.specs.declared.profile.Profile.{Profile}
-use Rattle.device_data.specs.DevicePages.{device_page_head}
+use Rattle.device_data.specs.DevicePages.{directory_head, page_list_head, security_head, page_head as page_head_of, identify_page, device_log}
+use Rattle.device_data.specs.declared.settings.Settings.{Settings}
+use Rattle.trusted_cmds.specs.declared.log_pages.LogPages.{LogPages}
+use Rattle.trusted_cmds.specs.declared.log_pages.LogPages.TheVariants.{Directory, IdentifyData}
 use Rattle.std.proofs.Common.{◌≡◌, ◌∙◌, ℕ, zero, suc, ◌+◌, ◌-◌, ◌*◌, ◌/◌, ◌≤◌, ◌<◌, ◌&&◌, nat_le, nat_lt, Bool, true, false, List, [], ◌∷◌, ◌++◌, length, replicate, if◌then◌else◌, Option, Some, None, refl, ap, arith}
 use Rattle.std.specs.Prelude.{take, drop, unwrap_or}
 use Rattle.std.specs.List.{flat_map}
 use Rattle.std.proofs.lemmas.List.{length-take, length-take-le, length-drop, length-append, length-replicate}
 use Rattle.std.proofs.lemmas.Bool.Decides.{nat_tests}
 use Rattle.device_data.specs.ErrorLog.{sized, error_log, page_head}
-use Rattle.device_data.specs.Identity.{identity, identify_word, low_first, run_from, identity_in, field_word}
+use Rattle.device_data.specs.Identity.{identity, identify_word, low_first, run_from, identity_in, identity_of, field_word}
 use Rattle.device_data.specs.Discovery.{discovery_of}
 use Rattle.device_data.specs.declared.log_page.Failure.{Failure}
 use Rattle.shadow_mbr.specs.Stored.{zeros, sectors_from}
@@ -146,11 +149,42 @@ length-identity sectors =
     length-words (identify_word sectors) (run_from 0 256)
     ∙ ap (λ (n : ℕ). 2 * n) (length-run 0 256)
 
-length-known : (p : Profile) (config : Config) → length (identity_in p config) ≡ 512
-length-known Base config = length-identity config.sectors
-length-known Field config =
-    length-words (field_word config) (run_from 0 256)
+length-known : (p : Profile) (config : Config) (settings : Settings) → length (identity_in p config settings) ≡ 512
+length-known Base config settings = length-identity config.sectors
+length-known Field config settings =
+    length-words (field_word config settings) (run_from 0 256)
     ∙ ap (λ (n : ℕ). 2 * n) (length-run 0 256)
+
+-- each page has 512 bytes
+length-page : (config : Config) (settings : Settings) (page : ℕ) → length (identify_page config settings page) ≡ 512
+length-page config settings page =
+    by_tests (Rattle.std.specs.Prelude.nat_eq page 0) (Rattle.std.specs.Prelude.nat_eq page 1) (Rattle.std.specs.Prelude.nat_eq page 6)
+  where
+    by_tests : (a b c : Bool)
+        → length (if a then sized 512 page_list_head
+        else (if b then identity_of config settings
+        else (if c then sized 512 security_head else sized 512 (page_head_of page))))
+        ≡ 512
+    by_tests true b c = length-sized 512 page_list_head
+    by_tests false true c = length-known config.profile config settings
+    by_tests false false true = length-sized 512 security_head
+    by_tests false false false = length-sized 512 (page_head_of page)
+
+length-pages : (config : Config) (settings : Settings) (first n : ℕ)
+    → length (flat_map (identify_page config settings) (run_from first n)) ≡ 512 * n
+length-pages config settings first zero = refl
+length-pages config settings first (suc n) =
+    omega (
+      arith,
+      length-append (identify_page config settings first) (flat_map (identify_page config settings) (run_from (suc first) n)),
+      length-page config settings first,
+      length-pages config settings (suc first) n,
+    )
+
+length-device_log : (config : Config) (settings : Settings) (pages : LogPages)
+    → length (device_log config settings pages) ≡ 512 * pages_asked pages
+length-device_log config settings Directory = length-sized 512 directory_head
+length-device_log config settings (IdentifyData first count) = length-pages config settings first count
 
 length-one : (xs : List ℕ) (last : ℕ) → length xs ≡ 511 → length (xs ++ last ∷ []) ≡ 512
 length-one xs last e = omega (arith, length-append xs (last ∷ []), e)
@@ -179,11 +213,11 @@ data-fits f (Receive protocol com_id blocks dma) whole =
       arith,
       length-told (is_protocol_list (Receive protocol com_id blocks dma)) f com_id (512 * blocks),
     )
-data-fits f Identify whole = omega (arith, length-known f.config.profile f.config)
+data-fits f Identify whole = omega (arith, length-known f.config.profile f.config f.settings)
 data-fits f (ReadLog10 dma) whole = omega (arith, length-log f.failure)
 data-fits f Flush whole = omega arith
-data-fits f SetFeatures whole = omega arith
-data-fits f (ReadLog page dma) whole = omega (arith, length-sized 512 (device_page_head page))
+data-fits f (SetFeatures feature) whole = omega arith
+data-fits f (ReadLog pages dma) whole = omega (arith, length-device_log f.config f.settings pages)
 
 pub held-fits : (f : Facts) (command : Command) (v : Verdict)
     → ((s : ℕ) → length (f.sector s) ≡ 512)
@@ -197,5 +231,5 @@ held-fits f (Receive protocol com_id blocks dma) v whole = omega arith
 held-fits f Identify v whole = omega arith
 held-fits f (ReadLog10 dma) v whole = omega arith
 held-fits f Flush v whole = omega arith
-held-fits f SetFeatures v whole = omega arith
+held-fits f (SetFeatures feature) v whole = omega arith
 held-fits f (ReadLog page dma) v whole = omega arith

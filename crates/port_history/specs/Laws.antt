@@ -36,7 +36,7 @@ is_of_request (commands.Send protocol com_id blocks dma) = dma
 is_of_request (commands.Receive protocol com_id blocks dma) = dma
 is_of_request (commands.ReadLog10 dma) = false
 is_of_request (commands.ReadLog page dma) = false
-is_of_request commands.SetFeatures = false
+is_of_request (commands.SetFeatures feature) = false
 is_of_request _ = true
 
 -- What a command needs so that it is read as it is.

@@ -6,7 +6,7 @@ use Rattle.fis.specs.Types.{h2d_type}
 use Rattle.fis.specs.declared.h2d.RegH2d.{RegH2d}
 use Rattle.trusted_cmds.specs.declared.command.Command.{Command}
 use Rattle.trusted_cmds.specs.declared.command.Command.TheVariants as commands
-use Rattle.trusted_cmds.specs.Commands.{sector_size, fis_of}
+use Rattle.trusted_cmds.specs.Commands.{sector_size, fis_of, pages_asked}
 use Rattle.port_history.specs.declared.request.Request.{Request}
 use Rattle.port_history.specs.declared.request.Request.TheVariants.{Read, ReadDma, Write, WriteDma, Send, Receive, Identify, Flush}
 use Rattle.port_history.specs.declared.request.Answer.{Answer}
@@ -79,7 +79,7 @@ blocks_moved (commands.Send protocol com_id blocks dma) = blocks
 blocks_moved (commands.Receive protocol com_id blocks dma) = blocks
 blocks_moved commands.Identify = 1
 blocks_moved (commands.ReadLog10 dma) = 1
-blocks_moved (commands.ReadLog page dma) = 1
+blocks_moved (commands.ReadLog pages dma) = pages_asked pages
 blocks_moved _ = 0
 
 abbrev pub bytes_moved : Command → ℕ

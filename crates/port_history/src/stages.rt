@@ -59,7 +59,7 @@ pub fn is_queued(command: Command) -> bool
         | Command::Identify
         | Command::ReadLog10 { .. }
         | Command::Flush
-        | Command::SetFeatures
+        | Command::SetFeatures { .. }
         | Command::ReadLog { .. } => false,
     }
 }

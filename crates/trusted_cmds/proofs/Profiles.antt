@@ -1,5 +1,6 @@
 -- What a profile reads.
-use Rattle.std.proofs.Common.{◌≡◌, ◌∙◌, ℕ, Bool, true, false, Option, Some, None, Ok, refl, sym, ap, arith}
+use Rattle.std.specs.Prelude.{option_map}
+use Rattle.std.proofs.Common.{◌≡◌, ◌∙◌, ◌%◌, ℕ, Bool, true, false, Option, Some, None, Ok, Err, cond, refl, sym, ap, arith}
 use Rattle.basics.specs.declared.profile.Profile.{Profile}
 use Rattle.basics.specs.declared.profile.Profile.TheVariants.{Base, Field}
 use Rattle.fis.specs.declared.h2d.RegH2d.{RegH2d}
@@ -7,10 +8,12 @@ use Rattle.trusted_cmds.specs.declared.command.Command.{Command}
 use Rattle.trusted_cmds.specs.declared.command.Command.TheVariants.{ReadDma, WriteDma, Flush, SetFeatures, ReadLog}
 use Rattle.trusted_cmds.specs.declared.command.CommandError.{CommandError}
 use Rattle.trusted_cmds.specs.declared.command.CommandError.TheVariants.{Unknown, LogPage}
-use Rattle.trusted_cmds.specs.declared.command.DevicePage.{DevicePage}
-use Rattle.trusted_cmds.specs.declared.command.DevicePage.TheVariants.{LogDirectory, PageList, Security}
-use Rattle.trusted_cmds.specs.Commands.{reading, read_unless, fault_of, is_known_code, names_error_log, read_log, read_log_dma, by_dma, log_place, log_read_fis}
-use Rattle.trusted_cmds.specs.Profiles.{reading_in, read_or, beside, names_page, is_offered, CarriesBeside}
+use Rattle.trusted_cmds.specs.declared.feature.Feature.{Feature}
+use Rattle.trusted_cmds.specs.declared.feature.Feature.TheVariants.{WriteCache, ReadLookAhead, TransferMode}
+use Rattle.trusted_cmds.specs.declared.log_pages.LogPages.{LogPages}
+use Rattle.trusted_cmds.specs.declared.log_pages.LogPages.TheVariants.{Directory, IdentifyData}
+use Rattle.trusted_cmds.specs.Commands.{reading, read_unless, fault_of, is_known_code, names_error_log, read_log, read_log_dma, by_dma, log_place, pages_asked, log_read_fis, feature_fis}
+use Rattle.trusted_cmds.specs.Profiles.{reading_in, read_or, beside, names_pages, names_feature, feature_named, pages_named, is_transfer_mode, is_offered, CarriesBeside}
 
 -- What each drive reads, every profile reads the same.
 pub base-reads : (h : RegH2d) → reading_in Base h ≡ reading h
@@ -24,10 +27,9 @@ known-reads Field h none =
 unknown : (h : RegH2d) → h.is_command ≡ true → is_known_code h.command ≡ false → fault_of h ≡ Some Unknown
 unknown h is not = grind arith
 
-not-error-log : (page : DevicePage) (h : RegH2d) → names_page page h ≡ true → names_error_log h ≡ false
-not-error-log LogDirectory h named = grind arith
-not-error-log PageList h named = grind arith
-not-error-log Security h named = grind arith
+not-error-log : (pages : LogPages) (h : RegH2d) → names_pages pages h ≡ true → names_error_log h ≡ false
+not-error-log Directory h named = grind arith
+not-error-log (IdentifyData first count) h named = grind arith
 
 of-log : (dma : Bool) (h : RegH2d) → h.is_command ≡ true → h.command ≡ by_dma dma read_log read_log_dma → names_error_log h ≡ false → fault_of h ≡ Some LogPage
 of-log true h is code not = grind arith
@@ -38,16 +40,29 @@ pub faulty : (h : RegH2d) (c : Command) (t : Option ℕ) → CarriesBeside h c t
 faulty h (ReadDma lba count) None k = (Unknown, unknown h k.is_command (ap is_known_code k.command))
 faulty h (WriteDma lba count) None k = (Unknown, unknown h k.is_command (ap is_known_code k.command))
 faulty h Flush None k = (Unknown, unknown h k.is_command (ap is_known_code k.command))
-faulty h SetFeatures None k = (Unknown, unknown h k.is_command (ap is_known_code k.command))
-faulty h (ReadLog page dma) None k = (LogPage, of-log dma h k.is_command k.command (not-error-log page h k.page_field))
+faulty h (SetFeatures feature) None k = (Unknown, unknown h k.is_command (ap is_known_code k.command))
+faulty h (ReadLog pages dma) None k = (LogPage, of-log dma h k.is_command k.command (not-error-log pages h k.page_field))
 faulty h _ _ k = absurd k
 
--- The spelling of a page is read as the page.
-pub page-back : (page : DevicePage) (dma : Bool) (p : Profile) → is_offered p (ReadLog page dma) ≡ true → reading_in p (log_read_fis (log_place page) dma) ≡ Ok (ReadLog page dma, None)
-page-back LogDirectory true Field is = refl
-page-back LogDirectory false Field is = refl
-page-back PageList true Field is = refl
-page-back PageList false Field is = refl
-page-back Security true Field is = refl
-page-back Security false Field is = refl
-page-back page dma Base is = grind arith
+-- The spelling of pages is read as the pages, and that of a feature as the feature.
+pub pages-back : (pages : LogPages) (dma : Bool) (p : Profile) → is_offered p (ReadLog pages dma) ≡ true
+    → reading_in p (log_read_fis (log_place pages) (pages_asked pages) dma) ≡ Ok (ReadLog pages dma, None)
+pages-back Directory true Field is = refl
+pages-back Directory false Field is = refl
+pages-back (IdentifyData first count) true Field is = grind arith
+pages-back (IdentifyData first count) false Field is = grind arith
+pages-back pages dma Base is = grind arith
+
+mode-is : (mode : ℕ) → is_transfer_mode mode ≡ true → mode % 256 ≡ mode
+mode-is mode is = grind arith
+
+pub feature-back : (feature : Feature) (p : Profile) → is_offered p (SetFeatures feature) ≡ true
+    → reading_in p (feature_fis feature) ≡ Ok (SetFeatures feature, None)
+feature-back (WriteCache true) Field is = refl
+feature-back (WriteCache false) Field is = refl
+feature-back (ReadLookAhead true) Field is = refl
+feature-back (ReadLookAhead false) Field is = refl
+feature-back (TransferMode mode) Field is =
+    ap (λ m. read_or (Err Unknown) (option_map SetFeatures (cond (is_transfer_mode m) (Some (TransferMode m)) None))) (mode-is mode is)
+    ∙ ap (λ b. read_or (Err Unknown) (option_map SetFeatures (cond b (Some (TransferMode mode)) None))) is
+feature-back feature Base is = grind arith

@@ -7,10 +7,11 @@ use Rattle.trusted_cmds.specs.declared.command.Command.{Command}
 use Rattle.std.specs.Prelude.{not, ◌||◌, option_map, if◌then◌else◌}
 use Rattle.std.proofs.Common.{cond}
 use Rattle.trusted_cmds.specs.declared.command.Command.TheVariants.{ReadDma, WriteDma, Flush, SetFeatures, ReadLog}
-use Rattle.trusted_cmds.specs.declared.command.DevicePage.{DevicePage}
+use Rattle.trusted_cmds.specs.declared.feature.Feature.{Feature}
+use Rattle.trusted_cmds.specs.declared.log_pages.LogPages.{LogPages}
 use Rattle.trusted_cmds.specs.declared.command.CommandError.{CommandError}
 use Rattle.trusted_cmds.specs.Commands.{reading, has_lba_bit, is_log_read, read_log_dma, set_features}
-use Rattle.trusted_cmds.specs.Profiles.{reading_in, read_or, beside, short_read_dma, short_write_dma, short_flush_cache, short_lba, short_sectors, is_short_transfer, short_transfer, plain_or_page, page_named}
+use Rattle.trusted_cmds.specs.Profiles.{reading_in, read_or, beside, short_read_dma, short_write_dma, short_flush_cache, short_lba, short_sectors, is_short_transfer, short_transfer, beside_without_sectors, feature_named, pages_named}
 
 -- What each drive reads, every profile reads.
 pub ok-reads : (p : Profile) (h : RegH2d) {x : Command × Option ℕ} → ◌≡◌ {A = Result (Command × Option ℕ) CommandError} (reading h) (Ok x)
@@ -69,18 +70,22 @@ false_true h = cc
 not_write : {c : Command} {lba count : ℕ} → is_write c ≡ false → Some c ≡ Some (WriteDma lba count) → ⊥
 not_write none h = false_true (sym none ∙ ap is_write (some_is h))
 
-no_page : (h : RegH2d) (page : Option DevicePage) (dma : Bool) (lba count : ℕ)
-    → option_map (λ (p : DevicePage). ReadLog p dma) page ≡ Some (WriteDma lba count) → ⊥
+no_page : (h : RegH2d) (page : Option LogPages) (dma : Bool) (lba count : ℕ)
+    → option_map (λ (p : LogPages). ReadLog p dma) page ≡ Some (WriteDma lba count) → ⊥
 no_page h None dma lba count g = no_write g
 no_page h (Some p) dma lba count g = not_write refl g
 
+no_feature : (feature : Option Feature) (lba count : ℕ) → option_map SetFeatures feature ≡ Some (WriteDma lba count) → ⊥
+no_feature None lba count g = no_write g
+no_feature (Some f) lba count g = not_write refl g
+
 no_plain : (h : RegH2d) (a b c : Bool) (lba count : ℕ)
-    → cond a (Some Flush) (cond b (Some SetFeatures)
-    (cond c (option_map (λ (p : DevicePage). ReadLog p (h.command == read_log_dma)) (page_named h)) None))
+    → cond a (Some Flush) (cond b (option_map SetFeatures (feature_named h))
+    (cond c (option_map (λ (p : LogPages). ReadLog p (h.command == read_log_dma)) (pages_named h)) None))
     ≡ Some (WriteDma lba count) → ⊥
 no_plain h true b c lba count g = not_write refl g
-no_plain h false true c lba count g = not_write refl g
-no_plain h false false true lba count g = no_page h (page_named h) (h.command == read_log_dma) lba count g
+no_plain h false true c lba count g = no_feature (feature_named h) lba count g
+no_plain h false false true lba count g = no_page h (pages_named h) (h.command == read_log_dma) lba count g
 no_plain h false false false lba count g = no_write g
 
 transferred : (h : RegH2d) (a b : Bool) (lba count : ℕ) → (h.command == short_write_dma) ≡ b → (a || b) ≡ true
@@ -94,7 +99,7 @@ pub short-write : (h : RegH2d) (lba count : ℕ) → beside h ≡ Some (WriteDma
 short-write h lba count g = by_command (not h.is_command) (is_short_transfer h.command) (has_lba_bit h.device) refl g
   where
     by_command : (a b c : Bool) → is_short_transfer h.command ≡ b
-        → cond a None (cond b (cond c (Some (short_transfer h)) None) (plain_or_page h)) ≡ Some (WriteDma lba count)
+        → cond a None (cond b (cond c (Some (short_transfer h)) None) (beside_without_sectors h)) ≡ Some (WriteDma lba count)
         → IsShortWrite h lba count
     by_command true b c is k = absurd (no_write k)
     by_command false true true is k =

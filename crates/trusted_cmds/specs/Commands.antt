@@ -3,8 +3,10 @@ use Rattle.std.specs.Prelude.{◌≡◌, ℕ, ◌+◌, ◌*◌, ◌/◌, ◌%◌
 use Rattle.fis.specs.declared.h2d.RegH2d.{RegH2d}
 use Rattle.trusted_cmds.specs.declared.command.Command.{Command}
 use Rattle.trusted_cmds.specs.declared.command.Command.TheVariants.{ReadQueued, WriteQueued, ReadDma, WriteDma, Send, Receive, Identify, ReadLog10, Flush, SetFeatures, ReadLog}
-use Rattle.trusted_cmds.specs.declared.command.DevicePage.{DevicePage}
-use Rattle.trusted_cmds.specs.declared.command.DevicePage.TheVariants.{LogDirectory, PageList, Security}
+use Rattle.trusted_cmds.specs.declared.feature.Feature.{Feature}
+use Rattle.trusted_cmds.specs.declared.feature.Feature.TheVariants.{WriteCache, ReadLookAhead, TransferMode}
+use Rattle.trusted_cmds.specs.declared.log_pages.LogPages.{LogPages}
+use Rattle.trusted_cmds.specs.declared.log_pages.LogPages.TheVariants.{Directory, IdentifyData}
 use Rattle.trusted_cmds.specs.declared.command.CommandError.{CommandError}
 use Rattle.trusted_cmds.specs.declared.command.CommandError.TheVariants.{Unknown, NotCommand, LogPage, Device}
 
@@ -276,16 +278,51 @@ abbrev pub trusted_fis : ℕ → ℕ → ℕ → ℕ → RegH2d
 trusted_fis code protocol sp_specific count =
     fis_with code protocol (count / 256 + 256 * sp_specific) 0 (count % 256)
 
--- A read of one page of a log has its place in LBA.
-abbrev pub log_read_fis : ℕ → Bool → RegH2d
-log_read_fis place dma = fis_with (by_dma dma read_log read_log_dma) 0 place 0 1
+-- A read of pages of a log has the place of the first in LBA, and their number in Count.
+abbrev pub log_read_fis : ℕ → ℕ → Bool → RegH2d
+log_read_fis place pages dma = fis_with (by_dma dma read_log read_log_dma) 0 place 0 pages
 
--- Where a page of the device's logs stands: the log's address below the page's number. The directory of the logs, and
--- of the log at address 30h, IDENTIFY DEVICE data, the list of its pages and the page on security (ACS-3, annex on logs).
-abbrev pub log_place : DevicePage → ℕ
-log_place LogDirectory = 0
-log_place PageList = 0x30
-log_place Security = 0x630
+-- The address of the log IDENTIFY DEVICE data (ACS-3, annex on logs).
+abbrev pub identify_data_address : ℕ
+identify_data_address = 0x30
+
+-- Where pages of the device's logs stand: the log's address below the number of the first page. And how many they are.
+abbrev pub log_place : LogPages → ℕ
+log_place Directory = 0
+log_place (IdentifyData first count) = identify_data_address + 256 * first
+
+abbrev pub pages_asked : LogPages → ℕ
+pages_asked Directory = 1
+pages_asked (IdentifyData first count) = count
+
+-- The subcommands of SET FEATURES by which a feature is chosen (ACS-3, SET FEATURES, table of subcommands).
+abbrev pub enable_write_cache : ℕ
+enable_write_cache = 0x02
+
+abbrev pub set_transfer_mode : ℕ
+set_transfer_mode = 0x03
+
+abbrev pub disable_look_ahead : ℕ
+disable_look_ahead = 0x55
+
+abbrev pub disable_write_cache : ℕ
+disable_write_cache = 0x82
+
+abbrev pub enable_look_ahead : ℕ
+enable_look_ahead = 0xaa
+
+abbrev pub subcommand : Feature → ℕ
+subcommand (WriteCache enabled) = if enabled then enable_write_cache else disable_write_cache
+subcommand (ReadLookAhead enabled) = if enabled then enable_look_ahead else disable_look_ahead
+subcommand (TransferMode mode) = set_transfer_mode
+
+abbrev pub mode_asked : Feature → ℕ
+mode_asked (TransferMode mode) = mode
+mode_asked _ = 0
+
+-- The subcommand stands in Feature, the transfer mode in Count.
+abbrev pub feature_fis : Feature → RegH2d
+feature_fis feature = fis_with set_features (subcommand feature) 0 0 (mode_asked feature)
 
 -- The writer's spelling of a command under a tag.
 abbrev pub fis_of : Command → ℕ → RegH2d
@@ -298,10 +335,10 @@ fis_of (Send protocol sp_specific count dma) tag =
 fis_of (Receive protocol sp_specific count dma) tag =
     trusted_fis (by_dma dma trusted_receive trusted_receive_dma) protocol sp_specific count
 fis_of Identify tag = fis_with identify_device 0 0 0 0
-fis_of (ReadLog10 dma) tag = log_read_fis error_log_address dma
+fis_of (ReadLog10 dma) tag = log_read_fis error_log_address 1 dma
 fis_of Flush tag = fis_with flush_cache 0 0 0 0
-fis_of SetFeatures tag = fis_with set_features 0 0 0 0
-fis_of (ReadLog page dma) tag = log_read_fis (log_place page) dma
+fis_of (SetFeatures feature) tag = feature_fis feature
+fis_of (ReadLog pages dma) tag = log_read_fis (log_place pages) (pages_asked pages) dma
 
 -- The tag that a command is read back with: only a queued one has it.
 abbrev pub tag_with : Command → ℕ → Option ℕ

@@ -1,5 +1,7 @@
 //! The commands of the drive, and why a FIS carries none (ACS-3).
 
+use crate::feature::Feature;
+use crate::log_pages::LogPages;
 use thiserror::Error;
 
 /// A command of the drive. Addresses are below 2^48; counts are of sectors, 1 to 65,536; a block has 512 bytes. `dma`
@@ -48,37 +50,27 @@ pub enum Command {
     },
     /// FLUSH CACHE EXT (ACS-3, "FLUSH CACHE EXT").
     Flush,
-    /// SET FEATURES (ACS-3, "SET FEATURES"), of any subcommand. Only `Field` has it.
-    SetFeatures,
-    /// READ LOG EXT and READ LOG DMA EXT of a page of the device's own logs (ACS-3, "READ LOG EXT"). Only `Field` has it.
+    /// SET FEATURES (ACS-3, "SET FEATURES"), of the features that IDENTIFY DEVICE tells of. Only `Field` has it.
+    SetFeatures {
+        feature: Feature,
+    },
+    /// READ LOG EXT and READ LOG DMA EXT of pages of the device's own logs (ACS-3, "READ LOG EXT"). Only `Field` has it.
     ReadLog {
-        page: DevicePage,
+        pages: LogPages,
         dma: bool,
     },
-}
-
-/// A page of the logs that tell of the device (ACS-3, annex on logs): one of the General Purpose Log directory, address
-/// 00h, and two of IDENTIFY DEVICE data, address 30h.
-#[derive(Clone, Copy, Debug, PartialEq, Eq)]
-pub enum DevicePage {
-    /// The directory, page 00h.
-    LogDirectory,
-    /// The list of the pages of IDENTIFY DEVICE data, page 00h.
-    PageList,
-    /// What IDENTIFY DEVICE data tells of security, page 06h.
-    Security,
 }
 
 /// Why a FIS is no command of the drive: `NotCommand` is told first, then `Unknown`, `Device`, `LogPage`.
 #[derive(Clone, Copy, Debug, PartialEq, Eq, Error)]
 pub enum CommandError {
-    /// The command code is none that the drive knows.
+    /// The command code is none that the drive knows, or SET FEATURES asks for what the drive does not have.
     #[error("the command is not known")]
     Unknown,
     /// Bit C of the FIS is clear: it carries the Control register.
     #[error("the FIS carries no command")]
     NotCommand,
-    /// The log, its page or the number of pages is not the one that the drive has.
+    /// The drive has no such log, or not so many pages of it from the first on.
     #[error("the drive has no such log page")]
     LogPage,
     /// Bit 6 of the Device field is clear, where the command wants it set.

@@ -1,10 +1,9 @@
 //! The fields of a FIS, as the commands read them (ACS-3, the commands' tables of inputs).
 
 ghost use Rattle.std.specs.Prelude.{◌≡◌, ◌<◌, ◌≤◌, ◌+◌, ◌*◌, ◌/◌, ◌%◌, ◌==◌, ◌&&◌};
-ghost use Rattle.trusted_cmds.specs.Commands.{most_sectors, sectors, sectors_field, has_lba_bit, tag_of, protocol_of, sp_specific_of, blocks, names_error_log, error_log_address, log_place};
-ghost use Rattle.trusted_cmds.specs.Profiles.{short_lba, short_sectors, names_page, page_named};
+ghost use Rattle.trusted_cmds.specs.Commands.{most_sectors, sectors, sectors_field, has_lba_bit, tag_of, protocol_of, sp_specific_of, blocks, names_error_log, error_log_address};
+ghost use Rattle.trusted_cmds.specs.Profiles.{short_lba, short_sectors};
 
-use crate::command::DevicePage;
 use fis::{RegH2d, Tag};
 
 /// How many sectors a command moves at most.
@@ -104,39 +103,5 @@ pub(crate) fn short_sectors(h: &RegH2d) -> u32
     match h.count % 256 {
         0 => 256,
         count => u32::from(count),
-    }
-}
-
-/// The address of a log in LBA 7:0, with the number of a page in LBA 15:8.
-pub(crate) fn log_place(page: &DevicePage) -> u64
-    ensures { result ≡ log_place page.now }
-{
-    match *page {
-        DevicePage::LogDirectory => 0,
-        DevicePage::PageList => 0x30,
-        DevicePage::Security => 0x630,
-    }
-}
-
-/// Whether a read of a log names this page, and one page.
-fn names_page(page: &DevicePage, h: &RegH2d) -> bool
-    ensures { result ≡ names_page page.now h.now }
-{
-    let lba = h.lba.number();
-    lba % 65_536 == log_place(page) && lba / 0x1_0000_0000 % 256 == 0 && h.count == 1
-}
-
-/// The page that a read of a log names.
-pub(crate) fn page_named(h: &RegH2d) -> Option<DevicePage>
-    ensures { result ≡ page_named h.now }
-{
-    if names_page(&DevicePage::LogDirectory, h) {
-        Some(DevicePage::LogDirectory)
-    } else if names_page(&DevicePage::PageList, h) {
-        Some(DevicePage::PageList)
-    } else if names_page(&DevicePage::Security, h) {
-        Some(DevicePage::Security)
-    } else {
-        None
     }
 }

@@ -4,7 +4,9 @@
 mod block;
 mod codes;
 mod command;
+mod feature;
 mod fields;
+mod log_pages;
 mod payload;
 mod reading;
 mod reset;
@@ -12,8 +14,10 @@ mod spelling;
 
 pub use block::{BLOCK_COM_ID, SidBlock, is_block_sid};
 pub use codes::is_queued;
-pub use command::{Command, CommandError, DevicePage};
+pub use command::{Command, CommandError};
+pub use feature::{Feature, is_multiword, is_ultra};
 pub use fields::{sectors, tag_of};
+pub use log_pages::LogPages;
 pub use payload::{SECTOR_SIZE, payload_len};
 pub use reading::{laws_of_profiles, of_fis};
 pub use reset::{RESET_COM_ID, RESET_PROTOCOL, is_programmatic_reset, is_protocol_list};

@@ -1,17 +1,19 @@
 //! The command that a FIS carries.
 
-ghost use Rattle.std.specs.Prelude.{◌≡◌, Option, Some, None, IfOk, IfErr, IfSome, Ok, ℕ};
+ghost use Rattle.std.specs.Prelude.{◌≡◌, Option, Some, None, IfOk, IfErr, IfSome, Ok, ℕ, true, false};
 ghost use Rattle.trusted_cmds.specs.declared.command.Command.{Command};
 ghost use Rattle.trusted_cmds.specs.Commands.{Carries, IsCounted, fault_of, command_of, command_without_sectors, tag_in, reading};
-ghost use Rattle.trusted_cmds.specs.Profiles.{CarriesIn, CarriesBeside, short_transfer, plain_or_page, beside, reading_in};
+ghost use Rattle.trusted_cmds.specs.Profiles.{CarriesIn, CarriesBeside, is_short_transfer, short_transfer, beside_without_sectors, beside, reading_in};
 ghost use Rattle.basics.specs.declared.profile.Profile.TheVariants.{Base};
 
 use crate::codes::*;
 use crate::command::{Command, CommandError};
+use crate::feature::feature_named;
 use crate::fields::{
-    blocks, has_lba_bit, names_error_log, page_named, protocol_of, sectors, short_lba,
-    short_sectors, sp_specific_of, tag_of,
+    blocks, has_lba_bit, names_error_log, protocol_of, sectors, short_lba, short_sectors,
+    sp_specific_of, tag_of,
 };
+use crate::log_pages::pages_named;
 use basics::Profile;
 use fis::{RegH2d, Tag};
 
@@ -123,18 +125,26 @@ fn short_transfer(h: &RegH2d) -> Command
     }
 }
 
-/// A command without fields, or a page that is read.
-fn plain_or_page(h: &RegH2d) -> Option<Command>
-    ensures value { result ≡ plain_or_page h.now }
+/// A command that moves no sectors.
+fn beside_without_sectors(h: &RegH2d) -> Option<Command>
+    requires command { h.now.is_command ≡ true }
+    requires moves_none { is_short_transfer h.now.command ≡ false }
+    ensures value { result ≡ beside_without_sectors h.now }
+    ensures found { IfSome result (λ c. CarriesBeside h.now c None) }
+    ensures only { (c : Command) (t : Option ℕ) → CarriesBeside h.now c t
+        → (t ≡ None) × (result ≡ Some c) }
     ensures counted { IfSome result (λ c. IsCounted c) }
 {
     match h.command {
         SHORT_FLUSH_CACHE => Some(Command::Flush),
-        SET_FEATURES => Some(Command::SetFeatures),
+        SET_FEATURES => {
+            let feature = feature_named(h)?;
+            Some(Command::SetFeatures { feature })
+        }
         READ_LOG | READ_LOG_DMA => {
             let dma = h.command == READ_LOG_DMA;
-            let page = page_named(h)?;
-            Some(Command::ReadLog { page, dma })
+            let pages = pages_named(h)?;
+            Some(Command::ReadLog { pages, dma })
         }
         _ => None,
     }
@@ -155,7 +165,7 @@ fn beside(h: &RegH2d) -> Option<Command>
             None
         }
     } else if h.is_command {
-        plain_or_page(h)
+        beside_without_sectors(h)
     } else {
         None
     }

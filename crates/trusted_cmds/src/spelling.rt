@@ -1,13 +1,15 @@
 //! The FIS of a command.
 
 ghost use Rattle.std.specs.Prelude.{◌≡◌, ◌<◌, ◌≤◌, ◌+◌, ◌*◌, ◌/◌, ◌%◌, ◌^◌, IfSome, Ok, true};
-ghost use Rattle.trusted_cmds.specs.Commands.{most_sectors, IsCounted, by_dma, lba_of, fis_with, queued_fis, unqueued_fis, trusted_fis, log_read_fis, fis_of, tag_with};
+ghost use Rattle.trusted_cmds.specs.Commands.{most_sectors, IsCounted, by_dma, lba_of, fis_with, queued_fis, unqueued_fis, trusted_fis, log_read_fis, feature_fis, fis_of, tag_with};
 ghost use Rattle.trusted_cmds.specs.Profiles.{is_offered, reading_in};
 ghost use Rattle.basics.specs.declared.profile.Profile.{Profile};
 
 use crate::codes::*;
 use crate::command::Command;
-use crate::fields::{ERROR_LOG_ADDRESS, LBA_DEVICE, log_place, sectors_field};
+use crate::feature::Feature;
+use crate::fields::{ERROR_LOG_ADDRESS, LBA_DEVICE, sectors_field};
+use crate::log_pages::log_place;
 use fis::{Lba, PortNumber, RegH2d, Tag};
 
 /// A FIS with these fields, and zeros in those that no command has.
@@ -62,12 +64,20 @@ fn by_dma(dma: bool, pio_code: u8, dma_code: u8) -> u8
     if dma { dma_code } else { pio_code }
 }
 
-/// A read of one page of a log.
-fn log_read(place: u64, dma: bool) -> RegH2d
+/// A read of so many pages of a log.
+fn log_read(place: u64, pages: u16, dma: bool) -> RegH2d
     requires { place < 2 ^ 48 }
-    ensures { result ≡ log_read_fis place dma }
+    ensures { result ≡ log_read_fis place pages dma }
 {
-    fis_with(by_dma(dma, READ_LOG, READ_LOG_DMA), 0, place, 0, 1)
+    fis_with(by_dma(dma, READ_LOG, READ_LOG_DMA), 0, place, 0, pages)
+}
+
+/// A SET FEATURES.
+fn set_features(feature: Feature) -> RegH2d
+    ensures { result ≡ feature_fis feature }
+{
+    let subcommand = u16::from(feature.subcommand());
+    fis_with(SET_FEATURES, subcommand, 0, 0, u16::from(feature.mode()))
 }
 
 /// The FIS that carries the command, under the tag where it is queued, with zeros in the fields that it does not name.
@@ -107,9 +117,9 @@ pub fn to_fis(command: &Command, tag: Tag) -> RegH2d
             blocks,
         ),
         Command::Identify => fis_with(IDENTIFY_DEVICE, 0, 0, 0, 0),
-        Command::ReadLog10 { dma } => log_read(ERROR_LOG_ADDRESS, dma),
+        Command::ReadLog10 { dma } => log_read(ERROR_LOG_ADDRESS, 1, dma),
         Command::Flush => fis_with(FLUSH_CACHE, 0, 0, 0, 0),
-        Command::SetFeatures => fis_with(SET_FEATURES, 0, 0, 0, 0),
-        Command::ReadLog { page, dma } => log_read(log_place(&page), dma),
+        Command::SetFeatures { feature } => set_features(feature),
+        Command::ReadLog { pages, dma } => log_read(log_place(&pages), pages.count(), dma),
     }
 }

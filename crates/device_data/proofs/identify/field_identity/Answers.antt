@@ -6,11 +6,11 @@ use Rattle.device_data.proofs.identify.field_identity.Goals as goal
 
 pub loop-word-preserved : goal.loop-word-preserved
 loop-word-preserved c =
-    let bytes_of : ℕ → List ℕ = λ word. low_first (field_word c.args.config.now word) in
-    let added : c.extend_from_slice.new.self.items ≡ c.loop-word.bytes.items ++ low_first (field_word c.args.config.now c.loop-word.word) = search rules in
-    added ∙ ap (λ items. items ++ low_first (field_word c.args.config.now c.loop-word.word)) c.loop-word.invariant ∙ sym (flat_next bytes_of c.loop-word.word)
+    let bytes_of : ℕ → List ℕ = λ word. low_first (field_word c.args.config.now c.args.settings.now word) in
+    let added : c.extend_from_slice.new.self.items ≡ c.loop-word.bytes.items ++ low_first (field_word c.args.config.now c.args.settings.now c.loop-word.word) = search rules in
+    added ∙ ap (λ items. items ++ low_first (field_word c.args.config.now c.args.settings.now c.loop-word.word)) c.loop-word.invariant ∙ sym (flat_next bytes_of c.loop-word.word)
 
 pub returns : goal.returns
 returns c =
     let end : c.loop-word.word ≡ 256 = omega arith in
-    c.loop-word.invariant ∙ ap (λ count. flat_map (λ word. low_first (field_word c.args.config.now word)) (run_from 0 count)) end
+    c.loop-word.invariant ∙ ap (λ count. flat_map (λ word. low_first (field_word c.args.config.now c.args.settings.now word)) (run_from 0 count)) end

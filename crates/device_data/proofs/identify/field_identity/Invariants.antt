@@ -4,4 +4,4 @@ use Rattle.device_data.specs.Identity.{field_word, low_first, run_from}
 use Rattle.device_data.proofs.identify.field_identity.Given as goal
 
 abbrev pub invariant-loop-word : goal.invariant-loop-word
-invariant-loop-word l = l.bytes.items ≡ flat_map (λ word. low_first (field_word l.config word)) (run_from 0 l.word)
+invariant-loop-word l = l.bytes.items ≡ flat_map (λ word. low_first (field_word l.config l.settings word)) (run_from 0 l.word)

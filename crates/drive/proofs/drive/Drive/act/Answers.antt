@@ -34,7 +34,7 @@ returns-in_ok-bytes-in-Moves-clause-done c = λ o acts k.
     let e = c.set_served.ensures in
     let m = c.in_ok-bytes-in-Moves.ensures in
     let due = subst (λ (x : Decision). IsDue c.args.self.now c.args.h.now x) c.in-Moves.is c.requires.due in
-    moves-done c.args.h.now c.args.self.now c.carry_out.new.self o (log o acts) c.args.payload.now c.in-Moves.held c.args.decision c.set_served.new.self c.in-Moves.is due m.tper m.queue m.media
+    moves-done c.args.h.now c.args.self.now c.carry_out.new.self o (log o acts) c.args.payload.now c.in-Moves.held c.args.decision c.set_served.new.self c.in-Moves.is due m.tper m.queue m.settings m.media
     (record { status_is = e.status; error_is = e.error; held_is = e.held; fises_are = e.fises; bytes_are = e.bytes ∙ m.data (facts o (log o acts)); denied_is = e.denied ∙ c.none.ensures.denied; rule_is = e.rule ∙ c.none.ensures.rule }) k
 
 pub returns-in_ok-bytes-in-Executes-clause-done : goal.returns-in_ok-bytes-in-Executes-clause-done

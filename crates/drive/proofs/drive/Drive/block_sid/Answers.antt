@@ -6,7 +6,7 @@ use Rattle.drive.proofs.drive.Drive.block_sid.Goals as goal
 pub returns : goal.returns
 returns c = λ o past k.
     let inside = c.self.inside in
-    let old : DriveState = record { tper = inside.tper; queue = inside.queue; media = inside.media } in
-    let new : DriveState = record { tper = c.block_sid.new.self; queue = inside.queue; media = inside.media } in
+    let old : DriveState = record { tper = inside.tper; queue = inside.queue; media = inside.media; settings = inside.settings } in
+    let new : DriveState = record { tper = c.block_sid.new.self; queue = inside.queue; media = inside.media; settings = inside.settings } in
     let kept : KeepsDrive old o past = subst (λ (x : DriveState). KeepsDrive x o past) (sym c.self.view_is) k in
-    block-keeps old new o past c.args.block (c.block_sid.ensures.kept o past kept.tper) refl refl kept
+    block-keeps old new o past c.args.block (c.block_sid.ensures.kept o past kept.tper) refl refl refl kept

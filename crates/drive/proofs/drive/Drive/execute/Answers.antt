@@ -1,13 +1,13 @@
 use Rattle.std.proofs.Common.{◌≡◌, ◌*◌, ◌∙◌, ap, sym, subst, refl, ℕ, List, ◌∷◌}
 use Rattle.shadow_mbr.specs.Stored.{sector_size}
 use Rattle.trusted_cmds.specs.declared.command.Command.{Command}
-use Rattle.trusted_cmds.specs.declared.command.Command.TheVariants.{Identify}
+use Rattle.trusted_cmds.specs.declared.command.Command.TheVariants.{Identify, ReadLog}
 use Rattle.history.specs.Tcg.{data_of, receive_data}
 use Rattle.history.specs.Facts.{Facts, facts}
 use Rattle.history.specs.History.{log}
 use Rattle.drive.specs.Decision.{executed}
 use Rattle.drive.specs.State.{KeepsDrive}
-use Rattle.drive.proofs.Keeping.{seen-is, nothing-keeps, mended-keeps}
+use Rattle.drive.proofs.Keeping.{seen-is, nothing-keeps, mended-keeps, chosen-keeps}
 use Rattle.trusted_cmds.specs.Commands.{is_protocol_list}
 use Rattle.drive.proofs.Acting.{protocols-keeps, received-data}
 use Rattle.drive.proofs.drive.Drive.execute.Goals as goal
@@ -46,13 +46,18 @@ returns-in-Flush-clause-kept c = λ o acts k.
 
 pub returns-in-SetFeatures-clause-kept : goal.returns-in-SetFeatures-clause-kept
 returns-in-SetFeatures-clause-kept c = λ o acts k.
-    subst (λ (x : Command). KeepsDrive c.args.self.now o (executed (facts o (log o acts)) c.args.payload.now x ∷ log o acts)) (sym c.in-SetFeatures.is)
-    (nothing-keeps c.args.self.now o (log o acts) _ refl k)
+    subst (λ (x : Command). KeepsDrive c.choose.new.self o (executed (facts o (log o acts)) c.args.payload.now x ∷ log o acts)) (sym c.in-SetFeatures.is)
+    (chosen-keeps c.args.self.now c.choose.new.self o (log o acts) c.in-SetFeatures.feature c.choose.ensures k)
 
-pub returns-in_ok-device_page-in-ReadLog-clause-kept : goal.returns-in_ok-device_page-in-ReadLog-clause-kept
-returns-in_ok-device_page-in-ReadLog-clause-kept c = λ o acts k.
+pub returns-in_ok-device_log-in-ReadLog-clause-kept : goal.returns-in_ok-device_log-in-ReadLog-clause-kept
+returns-in_ok-device_log-in-ReadLog-clause-kept c = λ o acts k.
     subst (λ (x : Command). KeepsDrive c.args.self.now o (executed (facts o (log o acts)) c.args.payload.now x ∷ log o acts)) (sym c.in-ReadLog.is)
     (nothing-keeps c.args.self.now o (log o acts) _ refl k)
+
+pub returns-in_ok-device_log-in-ReadLog-clause-data : goal.returns-in_ok-device_log-in-ReadLog-clause-data
+returns-in_ok-device_log-in-ReadLog-clause-data c = λ o acts k.
+    subst (λ (x : Command). c.in_ok-device_log-in-ReadLog.field-0.items ≡ data_of (facts o (log o acts)) x) (sym c.in-ReadLog.is)
+    (c.in_ok-device_log-in-ReadLog.ensures ∙ ap (λ (f : Facts). data_of f (ReadLog c.in-ReadLog.pages c.in-ReadLog.dma)) (seen-is c.args.self.now o (log o acts) k))
 
 pub returns-then-is_protocol_list-clause-kept : goal.returns-then-is_protocol_list-clause-kept
 returns-then-is_protocol_list-clause-kept c = λ o acts k.

@@ -10,5 +10,5 @@ returns-in_ok-bytes-in-Some-clause-done c =
     let its : Held = c.in-Some.held in
     let m = c.in_ok-bytes-in-Some.ensures in
     let at : slot_at old.queue.slots c.args.tag ≡ Some its = sym c.held.ensures.value ∙ c.in-Some.is in
-    finished-some (λ bytes. bytes) c.args.tag c.args.payload.now _ its old c.carry_out.new.self c.release.new.self _ at m.tper m.queue m.media c.release.ensures
+    finished-some (λ bytes. bytes) c.args.tag c.args.payload.now _ its old c.carry_out.new.self c.release.new.self _ at m.tper m.queue m.settings m.media c.release.ensures
     c.of.ensures.fises (λ f. c.of.ensures.bytes ∙ m.data f)

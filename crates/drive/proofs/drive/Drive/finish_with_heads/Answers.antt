@@ -15,5 +15,5 @@ returns-in_ok-bytes-in-Some-clause-done c =
     let its : Held = c.in-Some.held in
     let m = c.in_ok-bytes-in-Some.ensures in
     let at : slot_at old.queue.slots c.args.tag ≡ Some its = sym c.held.ensures.value ∙ c.in-Some.is in
-    finished-some heads c.args.tag (replicate (expected (held_at old.queue c.args.tag)) c.args.byte) _ its old c.carry_out_with_heads.new.self c.release.new.self _ at m.tper m.queue (λ s. m.media s ∙ ap (λ (n : ℕ). sector_then its.transfer (replicate n c.args.byte) (sector_at old.media s) s) (brought-by old.queue c.args.tag its at)) c.release.ensures
+    finished-some heads c.args.tag (replicate (expected (held_at old.queue c.args.tag)) c.args.byte) _ its old c.carry_out_with_heads.new.self c.release.new.self _ at m.tper m.queue m.settings (λ s. m.media s ∙ ap (λ (n : ℕ). sector_then its.transfer (replicate n c.args.byte) (sector_at old.media s) s) (brought-by old.queue c.args.tag its at)) c.release.ensures
     c.of.ensures.fises (λ f. c.of.ensures.bytes ∙ m.data f)
