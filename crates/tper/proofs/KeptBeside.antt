@@ -1,11 +1,11 @@
--- What is kept stays kept beside deeds that have nothing to do with it: none, those of the queue, and unqueued writes.
+-- What is kept stays kept beside deeds that have nothing to do with it: none, those of the queue, unqueued writes, and features.
 use Rattle.std.proofs.Common.{◌≡◌, ℕ, Bool, true, false, List, ◌∷◌, Option, Some, None, refl, sym, ap, ◌∙◌}
 use Rattle.std.specs.Prelude.{unwrap_or}
 use Rattle.transactions.specs.Stored.{Stored}
 use Rattle.sessions.specs.Live.{Live}
 use Rattle.trusted_cmds.specs.declared.block.SidBlock.{SidBlock}
 use Rattle.history.specs.Opening.{Origin}
-use Rattle.history.specs.Events.{Deed, Nothing, OfQueue, Wrote, Event, or_else, latest}
+use Rattle.history.specs.Events.{Deed, Nothing, OfQueue, Wrote, Chose, Event, or_else, latest}
 use Rattle.history.specs.Readers.{waits, waiting, block_then}
 use Rattle.history.specs.KeptStore.{StoresBy}
 use Rattle.history.specs.KeptSessions.{LivesBy}
@@ -18,30 +18,35 @@ abbrev pub spares : Deed → Bool
 spares Nothing = true
 spares (OfQueue deed) = true
 spares (Wrote lba bytes) = true
+spares (Chose feature) = true
 spares _ = false
 
 spares-store : (d : Deed) (s : Stored) → spares d ≡ true → StoresBy d s s
 spares-store Nothing s h = refl
 spares-store (OfQueue deed) s h = refl
 spares-store (Wrote lba bytes) s h = refl
+spares-store (Chose feature) s h = refl
 spares-store _ s h = cc
 
 spares-live : (d : Deed) (l : Live) → spares d ≡ true → LivesBy d l l
 spares-live Nothing l h = record { next = refl; at = λ n. refl }
 spares-live (OfQueue deed) l h = record { next = refl; at = λ n. refl }
 spares-live (Wrote lba bytes) l h = record { next = refl; at = λ n. refl }
+spares-live (Chose feature) l h = record { next = refl; at = λ n. refl }
 spares-live _ l h = cc
 
 spares-block : (d : Deed) (block : SidBlock) → spares d ≡ true → block_then d block ≡ block
 spares-block Nothing block h = refl
 spares-block (OfQueue deed) block h = refl
 spares-block (Wrote lba bytes) block h = refl
+spares-block (Chose feature) block h = refl
 spares-block _ block h = cc
 
 spares-waiting : (d : Deed) (com_id : ℕ) → spares d ≡ true → waits com_id d ≡ None
 spares-waiting Nothing com_id h = refl
 spares-waiting (OfQueue deed) com_id h = refl
 spares-waiting (Wrote lba bytes) com_id h = refl
+spares-waiting (Chose feature) com_id h = refl
 spares-waiting _ com_id h = cc
 
 either : (x y : Option (Option (List ℕ))) → unwrap_or (or_else x y) None ≡ unwrap_or x (unwrap_or y None)

@@ -15,6 +15,6 @@ pub returns : goal.returns
 returns c = λ o past k.
     let inside = c.self.inside in
     let old : DriveState = record { tper = inside.tper; queue = inside.queue; media = inside.media; settings = inside.settings } in
-    let new : DriveState = record { tper = c.reset.new.self; queue = c.new-self-inside.result; media = inside.media; settings = c.after_reset.result } in
+    let new : DriveState = record { tper = c.reset.new.self; queue = c.new-self-inside.result; media = inside.media; settings = c.after_reset-self-inside.result } in
     let kept : KeepsDrive old o past = subst (λ (x : DriveState). KeepsDrive x o past) (sym c.self.view_is) k in
-    restart-keeps old new o past c.args.kind (c.reset.ensures.kept o past kept.tper) c.new-self-inside.ensures.empty refl c.after_reset.ensures kept
+    restart-keeps old new o past c.args.kind (c.reset.ensures.kept o past kept.tper) c.new-self-inside.ensures.empty refl c.after_reset-self-inside.ensures kept
