@@ -8,6 +8,7 @@ pub mod Active
 pub mod BlockByBlock
 pub mod Counts
 pub mod Current
+pub mod CurrentLaw
 pub mod BitsOfWords
 pub mod BitByBit
 pub mod RaisedBits
@@ -15,5 +16,10 @@ pub mod QueuedBits
 pub mod LinkBits
 pub mod OwnWrites
 pub mod SoftwareResets
+pub mod AccessRows
+pub mod Reaches
+pub mod OwnBits
+pub mod TaskBits
 mod Rows
 mod RowsSoftwareReset
+mod RowsAccess

@@ -62,30 +62,30 @@ up_kept : (value : ℕ) → is_up (bit_and value control_bits) ≡ is_up value
 up_kept value =
     ap (λ (n : ℕ). n % 16 == 0) (and_mask value 12) ∙ ap (λ (n : ℕ). n == 0) (mod-mod-pow value 8 4)
 
-run_control : (st : Bool) (regs : Regs) → (run_if st regs).control ≡ regs.control
+pub run_control : (st : Bool) (regs : Regs) → (run_if st regs).control ≡ regs.control
 run_control true regs = refl
 run_control false regs = refl
 
-command_control : (stops asked : Bool) (regs : Registers)
+pub command_control : (stops asked : Bool) (regs : Registers)
     → (stopped_if stops (overridden asked regs)).port.control ≡ regs.port.control
 command_control true true regs = refl
 command_control true false regs = refl
 command_control false true regs = refl
 command_control false false regs = refl
 
-link_control : (comes goes : Bool) (regs : Registers)
+pub link_control : (comes goes : Bool) (regs : Registers)
     → (found_if comes (lost_if goes regs)).port.control ≡ regs.port.control
 link_control true true regs = refl
 link_control true false regs = refl
 link_control false true regs = refl
 link_control false false regs = refl
 
-tags_control : (st : Bool) (one other : Regs) → one.control ≡ other.control
+pub tags_control : (st : Bool) (one other : Regs) → one.control ≡ other.control
     → (if st then one else other).control ≡ other.control
 tags_control true one other e = e
 tags_control false one other e = refl
 
-abbrev is_linked : Registers → Bool
+abbrev pub is_linked : Registers → Bool
 is_linked regs = is_up regs.port.control
 
 port_linked : (value : ℕ) (regs : Registers) (register : Register)
@@ -145,7 +145,7 @@ all_control tag [] regs = refl
 all_control tag (fis ∷ later) regs =
     all_control tag later (shown tag regs fis) ∙ shown_control tag regs fis
 
-served_control : (missed : Option Miss) (tag : ℕ) (list : List Fis) (regs : Registers)
+pub served_control : (missed : Option Miss) (tag : ℕ) (list : List Fis) (regs : Registers)
     → (served tag list missed regs).port.control ≡ regs.port.control
 served_control None tag list regs = all_control tag list regs.port
 served_control (Some misses.List) tag list regs = refl
@@ -157,7 +157,7 @@ served_control (Some misses.Fis) tag list regs = all_control tag list regs.port
 abbrev LinkedLaw : Type 0
 LinkedLaw = (o : Origin) (list : List Operation) → is_linked (regs_of o list) ≡ linked list
 
-linked_law : LinkedLaw
+pub linked_law : LinkedLaw
 linked_law o [] = refl
 linked_law o (Wrote offset value ∷ before) =
     let regs = regs_of o before in

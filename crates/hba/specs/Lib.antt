@@ -8,3 +8,6 @@ pub mod Engine
 pub mod Laws
 pub mod BitLaws
 pub mod Writes
+pub mod AccessTypes
+pub mod OwnBits
+pub mod TaskLaws

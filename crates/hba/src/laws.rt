@@ -1,8 +1,11 @@
 //! What follows from the definitions alone.
 
+ghost use Rattle.hba.specs.AccessTypes.{RowsLaw, generic_rows, place_rows, command_rows, state_rows, UnreachedLaw, FollowedLaw, WrittenStartLaw};
 ghost use Rattle.hba.specs.Blocks.{BlocksLaw, read_setup, write_setup};
 ghost use Rattle.hba.specs.BitLaws.{RunningLaw, IssuedLaw, QueuedLaw, RaisedLaw, ErrorsLaw, ChangesLaw, SignatureLaw};
 ghost use Rattle.hba.specs.Laws.{HostFailureLaw, HostDenialLaw, ActiveLaw, CurrentLaw};
+ghost use Rattle.hba.specs.OwnBits.{OwnBitsLaw};
+ghost use Rattle.hba.specs.TaskLaws.{TaskLaw, LinkStatusLaw};
 ghost use Rattle.hba.specs.Writes.{WritesLaw};
 
 /// Laws of the definitions, over every origin and every list of operations.
@@ -42,7 +45,10 @@ pub fn laws_of_blocks()
 /// of memory raised it since a 1 was written to it and a reset came. `errors`: PxSERR has DIAG.X exactly if the link has
 /// come up, and DIAG.N exactly if it has come up or gone down, since a 1 was written to it; a reset brings it up.
 /// `changes`: PCS and PRCS of PxIS are 1 with them. `signature`: PxSIG is that of a disk exactly if the device has told it
-/// since the link went down and since a reset.
+/// since the link went down and since a reset. `task`: PxTFD is what the latest of these left: a FIS of the device, its
+/// signature, a reset, a written PxSCTL that takes the link down or brings it up, CLO, a command to a device in reset.
+/// `link`: PxSSTS tells a device, an active link and its speed while PxSCTL.DET is 0 as it was written last, 4 while that is
+/// 4, and else 0; the speed is that with which the link came up last.
 pub fn laws_of_bits()
     ensures running { RunningLaw }
     ensures issued { IssuedLaw }
@@ -51,6 +57,8 @@ pub fn laws_of_bits()
     ensures errors { ErrorsLaw }
     ensures changes { ChangesLaw }
     ensures signature { SignatureLaw }
+    ensures task { TaskLaw }
+    ensures link { LinkStatusLaw }
 {}
 
 /// The law of writes, over every drive, list of operations and answers of memory: a piece of work writes nothing but parts
@@ -58,4 +66,22 @@ pub fn laws_of_bits()
 /// at PxFB, while FRE is set.
 pub fn laws_of_writes()
     ensures { WritesLaw }
+{}
+
+/// Laws of the access types, over any registers and any written 32-bit word (AHCI 1.3.1, section 3).
+///
+/// `generic`, `places`, `command`, `state`: behind a write each bit of its register reads what the bit's type says: RO bits
+/// stay, RW bits are as written, a written 1 clears an RWC bit, and sets an RW1 bit while ST is 1; reserved bits read 0. So
+/// it is but for a written GHC.HR, and for IS while PxIS asks. `unreached`: each other register stays, but for IS and for
+/// those that PxCMD, PxSCTL and PxSERR reach. `follows`: CR, FR, PCS and PRCS read as ST, FRE, DIAG.X and DIAG.N. `start`:
+/// ST 0 clears PxSACT, PxCI and CCS. `own`: after each list of operations the registers have no bits but their own.
+pub fn laws_of_access()
+    ensures generic { RowsLaw generic_rows }
+    ensures places { RowsLaw place_rows }
+    ensures command { RowsLaw command_rows }
+    ensures state { RowsLaw state_rows }
+    ensures unreached { UnreachedLaw }
+    ensures follows { FollowedLaw }
+    ensures start { WrittenStartLaw }
+    ensures own { OwnBitsLaw }
 {}

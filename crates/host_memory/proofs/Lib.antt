@@ -1,3 +1,4 @@
 pub mod Accesses
 pub mod Windows
+pub mod Deliveries
 mod Rows

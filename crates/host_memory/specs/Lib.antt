@@ -2,3 +2,5 @@ pub mod Access
 pub mod Window
 pub mod WindowLaws
 pub mod Memory
+pub mod HeaderLaws
+pub mod DeliveryLaws

@@ -1,5 +1,7 @@
 //! What follows from the definitions alone.
 
+ghost use Rattle.host_memory.specs.DeliveryLaws.{DeliveredLaw};
+ghost use Rattle.host_memory.specs.HeaderLaws.{HeaderLaw};
 ghost use Rattle.host_memory.specs.WindowLaws.{WrittenLaw, ReadLaw};
 
 /// Laws of windows, over every list of accesses.
@@ -9,4 +11,15 @@ ghost use Rattle.host_memory.specs.WindowLaws.{WrittenLaw, ReadLaw};
 pub fn laws_of_windows()
     ensures written { WrittenLaw }
     ensures read { ReadLaw }
+{}
+
+/// The law of command headers: CFL, PRDTL, CTBA and CTBAU say what a header names, and no other field, W and P among them.
+pub fn laws_of_headers()
+    ensures { HeaderLaw }
+{}
+
+/// The law of deliveries: where memory misses nothing and the PRDT has room, all data of an act lie over the blocks that its
+/// descriptors name, PRDBC counts them with those that it took, its FISes stand in their places, and nothing else is accessed.
+pub fn laws_of_deliveries()
+    ensures { DeliveredLaw }
 {}

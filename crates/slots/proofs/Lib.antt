@@ -4,3 +4,4 @@ pub mod Placed
 pub mod Sums
 pub mod Posted
 pub mod Lending
+mod Rows

@@ -3,6 +3,7 @@ use Rattle.hba.proofs.BitByBit.{running_law, issued_law}
 use Rattle.hba.proofs.QueuedBits.{queued_law}
 use Rattle.hba.proofs.RaisedBits.{raised_law}
 use Rattle.hba.proofs.LinkBits.{errors_law, changes_law, signature_law}
+use Rattle.hba.proofs.TaskBits.{task_law, link_status_law}
 use Rattle.hba.proofs.laws.laws_of_bits.Goals as goal
 
 pub returns-clause-running : goal.returns-clause-running
@@ -25,3 +26,9 @@ returns-clause-changes c = changes_law
 
 pub returns-clause-signature : goal.returns-clause-signature
 returns-clause-signature c = signature_law
+
+pub returns-clause-task : goal.returns-clause-task
+returns-clause-task c = task_law
+
+pub returns-clause-link : goal.returns-clause-link
+returns-clause-link c = link_status_law
