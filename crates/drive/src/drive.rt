@@ -15,10 +15,7 @@ use crate::queue::Queue;
 use crate::transfer::{Held, Transfer};
 use audit::rules::Rule;
 use basics::Profile;
-use device_data::{
-    Failure, Settings, device_log, discovery, error_log, field_discovery, identity_of,
-    protocol_list,
-};
+use device_data::{Failure, Settings, discovery, error_log, field_discovery};
 use fis::{H2D_LENGTH, H2D_TYPE, RegH2d, Tag};
 use history::ResetKind;
 use locking::{Op, RangeRow, Ranges};
@@ -30,9 +27,7 @@ use std::marker::Model;
 use std::mem::{replace, swap};
 use tper::{Tper, sized};
 use transactions::View;
-use trusted_cmds::{
-    Command, Feature, LogPages, SidBlock, is_block_sid, is_programmatic_reset,
-};
+use trusted_cmds::{Command, SidBlock, is_block_sid, is_programmatic_reset};
 
 /// Makes these the ranges that the rows describe, where they may be others.
 fn refresh_where(changes: bool, ranges: &mut Ranges, rows: &View<'_>)
@@ -48,14 +43,14 @@ fn refresh_where(changes: bool, ranges: &mut Ranges, rows: &View<'_>)
 /// A drive.
 #[derive(Drop)]
 pub struct Drive {
-    alloc: Global,
+    pub(crate) alloc: Global,
     sectors: u64,
     profile: Profile,
     ranges: Ranges,
-    tper: Tper,
+    pub(crate) tper: Tper,
     pub(crate) queue: Queue,
     pub(crate) media: Media,
-    settings: Settings,
+    pub(crate) settings: Settings,
     /// A vector for the bytes of the next read, or of the next response.
     spare: Vec<u8>,
 }
@@ -68,7 +63,12 @@ impl Model for Drive {
 
     ghost Value = { DriveState };
 
-    ghost view = { λ a. record { tper = a.tper; queue = a.queue; media = a.media; settings = a.settings } };
+    ghost view = { λ a. record {
+      tper = a.tper;
+      queue = a.queue;
+      media = a.media;
+      settings = a.settings;
+    } };
 
     ghost invariant = { λ a. (a.sectors ≤ 2 ^ 48)
         × (a.tper.store.config.sectors ≡ a.sectors)
@@ -88,10 +88,6 @@ impl Drive {
     ghost use Rattle.device_data.specs.Discovery.{has_owner, discovery_of};
     ghost use Rattle.trusted_cmds.specs.BlockSid.{is_block_sid, is_blocked};
     ghost use Rattle.device_data.specs.ErrorLog.{sized, error_log as log_page};
-    ghost use Rattle.device_data.specs.Protocols.{protocol_list as protocols_told};
-    ghost use Rattle.device_data.specs.Identity.{identity_of as identity_in};
-    ghost use Rattle.device_data.specs.DevicePages.{device_log as pages_told};
-    ghost use Rattle.device_data.specs.Settings.{with_feature};
     ghost use Rattle.transactions.specs.Sights.{look_up, committed_sight};
     ghost use Rattle.history.specs.Opening.{Origin, origin_on, factory_origin, origin_with, opened_with};
     ghost use Rattle.history.specs.Agreement.{HasNoTries};
@@ -427,39 +423,6 @@ impl Drive {
                 sized(self.alloc, &bytes, room)
             }
         }
-    }
-
-    /// The list of security protocols: as many bytes as the transfer has.
-    pub(crate) fn protocols(&self, room: usize) -> Result<Vec<u8>, AllocError>
-        ensures { IfOk result (λ v. v.items ≡ sized room protocols_told) }
-    {
-        sized(self.alloc, &protocol_list(), room)
-    }
-
-    /// The data of IDENTIFY DEVICE.
-    pub(crate) fn identify(&self) -> Result<Vec<u8>, AllocError>
-        ensures { IfOk result (λ v. v.items
-            ≡ identity_in self.now.tper.store.config self.now.settings) }
-    {
-        let view = self.tper.in_force();
-        identity_of(self.alloc, view.config(), &self.settings)
-    }
-
-    /// The data of pages of the logs that tell of the device.
-    pub(crate) fn device_log(&self, pages: &LogPages) -> Result<Vec<u8>, AllocError>
-        ensures { IfOk result (λ v. v.items
-            ≡ pages_told self.now.tper.store.config self.now.settings pages.now) }
-    {
-        let view = self.tper.in_force();
-        device_log(self.alloc, view.config(), &self.settings, pages)
-    }
-
-    /// Takes a feature as the host chose it.
-    pub(crate) fn choose(&mut self, feature: Feature)
-        ensures { self.new
-            ≡ record self.old { settings = with_feature feature self.old.settings } }
-    {
-        self.settings = self.settings.with(feature);
     }
 
     /// The data of log page 10h, which ends a failure.

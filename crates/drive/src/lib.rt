@@ -9,6 +9,7 @@ mod drive;
 mod error;
 mod executing;
 mod heads;
+mod interface;
 mod laws;
 mod opening;
 mod payload;

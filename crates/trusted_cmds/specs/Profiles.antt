@@ -163,14 +163,14 @@ reading_in Base h = reading h
 reading_in Field h = read_or (reading h) (beside h)
 
 -- What the field profile has: the features and the pages that there are.
-abbrev pub is_there : Command → Bool
-is_there (SetFeatures (TransferMode mode)) = is_transfer_mode mode
-is_there (ReadLog (IdentifyData first count) dma) = are_pages first count
-is_there _ = true
+abbrev pub field_offers : Command → Bool
+field_offers (SetFeatures (TransferMode mode)) = is_transfer_mode mode
+field_offers (ReadLog (IdentifyData first count) dma) = are_pages first count
+field_offers _ = true
 
 -- The commands that a profile has: SET FEATURES and the pages of the device's logs belong to the field profile.
 abbrev pub is_offered : Profile → Command → Bool
-is_offered Field command = is_there command
+is_offered Field command = field_offers command
 is_offered Base (SetFeatures feature) = false
 is_offered Base (ReadLog pages dma) = false
 is_offered Base _ = true
