@@ -11,18 +11,12 @@ use fis::RegH2d;
 #[derive(Clone, Copy, Debug, PartialEq, Eq)]
 pub enum Feature {
     /// The volatile write cache: subcommand 02h enables it, 82h disables it.
-    WriteCache {
-        enabled: bool,
-    },
+    WriteCache { enabled: bool },
     /// Read look-ahead: subcommand AAh enables it, 55h disables it.
-    ReadLookAhead {
-        enabled: bool,
-    },
+    ReadLookAhead { enabled: bool },
     /// The transfer mode, subcommand 03h: 00h and 01h the default of PIO, 08h to 0Ch PIO modes, 20h to 22h multiword DMA
     /// modes, 40h to 46h Ultra DMA modes.
-    TransferMode {
-        mode: u8,
-    },
+    TransferMode { mode: u8 },
 }
 
 const ENABLE_WRITE_CACHE: u8 = 0x02;

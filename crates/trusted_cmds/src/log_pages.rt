@@ -13,10 +13,7 @@ pub enum LogPages {
     /// The General Purpose Log directory, address 00h, page 00h.
     Directory,
     /// So many pages of IDENTIFY DEVICE data, address 30h, from the first on; its pages are 00h to 08h.
-    IdentifyData {
-        first: u8,
-        count: u8,
-    },
+    IdentifyData { first: u8, count: u8 },
 }
 
 impl LogPages {
@@ -67,7 +64,9 @@ pub(crate) fn pages_named(h: &RegH2d) -> Option<LogPages>
     let count = u64::from(h.count);
     if address == 0 && first == 0 && count == 1 {
         Some(LogPages::Directory)
-    } else if address == IDENTIFY_DATA_ADDRESS && 0 < count && first + count <= IDENTIFY_DATA_PAGES
+    } else if address == IDENTIFY_DATA_ADDRESS
+        && 0 < count
+        && first + count <= IDENTIFY_DATA_PAGES
     {
         Some(LogPages::IdentifyData {
             first: first as u8,
