@@ -73,16 +73,16 @@ first_whole (Some miss) Next talk h = absurd (clash (sym h.1))
 pub delivered_law : DeliveredLaw
 delivered_law place brought fises bytes talk arrival g m s =
     let whole = laid_whole g.2 arrival.missed (Counts place.at (data_taken fises brought.len + written_by g.0))
-        (PostsTo place.to fises) g.1 g.7 m (sym g.5 ∙ s) in
+    (PostsTo place.to fises) g.1 g.7 m (sym g.5 ∙ s) in
     let laid : Scatters (descriptors_of place.header) place.header.entries bytes g.0 None =
-        subst (λ (x : Option Miss). Scatters (descriptors_of place.header) place.header.entries bytes g.0 x) whole g.4 in
+    subst (λ (x : Option Miss). Scatters (descriptors_of place.header) place.header.entries bytes g.0 x) whole g.4 in
     let count = laid_so (descriptors_of place.header) place.header.entries bytes g.0 laid in
     let ends : Then (Counts place.at (data_taken fises brought.len + length bytes)) (PostsTo place.to fises) g.1 None =
-        subst (λ (n : ℕ). Then (Counts place.at (data_taken fises brought.len + n)) (PostsTo place.to fises) g.1 None) count
-        (subst (λ (x : Option Miss). EndsBy (ending x) (Counts place.at (data_taken fises brought.len + written_by g.0))
-        (PostsTo place.to fises) g.1 None) whole
-        (subst (λ (x : Option Miss). EndsBy (ending g.2) (Counts place.at (data_taken fises brought.len + written_by g.0))
-        (PostsTo place.to fises) g.1 x) m g.7)) in
+    subst (λ (n : ℕ). Then (Counts place.at (data_taken fises brought.len + n)) (PostsTo place.to fises) g.1 None) count
+    (subst (λ (x : Option Miss). EndsBy (ending x) (Counts place.at (data_taken fises brought.len + written_by g.0))
+    (PostsTo place.to fises) g.1 None) whole
+    (subst (λ (x : Option Miss). EndsBy (ending g.2) (Counts place.at (data_taken fises brought.len + written_by g.0))
+    (PostsTo place.to fises) g.1 x) m g.7)) in
     let rest = first_whole ends.2 (PostsTo place.to fises) ends.1 ends.5 in
     record {
       data_part = g.0;
