@@ -73,7 +73,7 @@ fetched_same arrival tag regs error holds read n given fises m e =
     (rw m (blocks_active n tag given before.port ∙ rw e (accepted_active tag before.port error holds read)))
 
 -- The two FISes of a completion.
-moved_active : (tag : ℕ) (to_host : Bool) (count : ℕ) (regs : Regs)
+pub moved_active : (tag : ℕ) (to_host : Bool) (count : ℕ) (regs : Regs)
     → (all_shown tag regs (setup_fis to_host tag count ∷ moved_fis tag ∷ [])).active
     ≡ without regs.active (2 ^ tag)
 moved_active tag to_host count regs =

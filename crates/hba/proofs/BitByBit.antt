@@ -262,7 +262,7 @@ all_issued tag slot (fis ∷ later) regs s t =
     ∙ ap (λ (b : Bool). not (one_ends later && slot == tag) && b) (shown_issued tag slot regs fis s t)
     ∙ both_end (ends_command fis) (one_ends later) (slot == tag) (word_has regs.issued tag)
 
-served_issued : (missed : Option Miss) (tag slot : ℕ) (list : List Fis) (regs : Registers) → slot < 32 → tag < 32
+pub served_issued : (missed : Option Miss) (tag slot : ℕ) (list : List Fis) (regs : Registers) → slot < 32 → tag < 32
     → word_has (served slot list missed regs).port.issued tag
     ≡ (not (one_ends (shown_if missed list) && slot == tag) && word_has regs.port.issued tag)
 served_issued None tag slot list regs s t = all_issued tag slot list regs.port s t

@@ -7,7 +7,7 @@ use Rattle.std.proofs.lemmas.Nat.Bits.{bit_at-zero, bit_at-lt, bit_at_or, bit_at
 use Rattle.hba_regs.specs.Registers.{without}
 use Rattle.hba.specs.BitLaws.{word_has}
 
-equal : (n m : ℕ) → n ≡ m → (n == m) ≡ true
+pub equal : (n m : ℕ) → n ≡ m → (n == m) ≡ true
 equal n m h = grind arith
 
 not_equal : (n m : ℕ) → (n ≡ m → ⊥) → (n == m) ≡ false

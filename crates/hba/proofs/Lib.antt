@@ -20,6 +20,8 @@ pub mod AccessRows
 pub mod Reaches
 pub mod OwnBits
 pub mod TaskBits
+pub mod Served
+pub mod Rests
 mod Rows
 mod RowsSoftwareReset
 mod RowsAccess

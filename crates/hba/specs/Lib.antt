@@ -11,3 +11,4 @@ pub mod Writes
 pub mod AccessTypes
 pub mod OwnBits
 pub mod TaskLaws
+pub mod Service
