@@ -1,5 +1,5 @@
 /* How much stack the calls of the library take: each is made in a thread whose stack is painted before, and what is painted no
-   more is counted. What makes a drive, a port or a controller may take 144 KiB, any other call 32 KiB, as the header says. */
+   more is counted. What makes a drive, a port or a controller may take 144 KiB, any other call 16 KiB, as the header says. */
 #include "opalport.h"
 
 #include <pthread.h>
@@ -7,7 +7,7 @@
 #include <stdlib.h>
 #include <string.h>
 
-enum { STACK = 1 << 20, PAINT = 0xa5, MOST_MAKING = 144 << 10, MOST = 32 << 10, BASE = 0x100000 };
+enum { STACK = 1 << 20, PAINT = 0xa5, MOST_MAKING = 144 << 10, MOST = 16 << 10, BASE = 0x100000 };
 enum { PxCLB = 0x100, PxFB = 0x108, PxCMD = 0x118, PxSERR = 0x130, PxCI = 0x138 };
 
 static opal_handle handle = OPAL_NONE;

@@ -14,7 +14,7 @@
 
    Each call gives a code: OPAL_DONE, or why it was refused, and then nothing was done. opal_error_text tells it in
    words. A call never ends the process, never waits and never prints. It takes memory from malloc, and stack: where it makes
-   a drive, a port or a controller up to 144 KiB, else up to 32 KiB. A text that is given has a length, and no zero behind it.
+   a drive, a port or a controller up to 144 KiB, else up to 16 KiB. A text that is given has a length, and no zero behind it.
 
    What a call sees for itself, and refuses with a code:
    - a null pointer (a buffer of 0 bytes may be null), and a pointer to a struct that is not aligned;
@@ -104,7 +104,7 @@ typedef enum opal_code {
     OPAL_PORT_NOT_ANSWERED = 108, /* the slot has no answer */
     OPAL_PORT_NOT_YOURS = 109,    /* the answer is another client's */
     OPAL_PORT_SIZE = 110,         /* a transfer is empty, above 256 blocks, no whole blocks, or at no address of 48 bits */
-    OPAL_PORT_HISTORY_FULL = 111  /* the port has done 1,048,576 steps */
+    OPAL_PORT_HISTORY_FULL = 111  /* no port is refused so any more: it keeps no history */
 } opal_code;
 
 /* A code has four bytes, as the library gives it. */
@@ -314,7 +314,7 @@ typedef struct opal_ready {
     uint8_t tag;  /* 0 of a recovery */
 } opal_ready;
 
-/* What a port shows: registers (AHCI 1.3.1, 3.3), and how many lines its audit log has. */
+/* What a port shows: registers (AHCI 1.3.1, 3.3), and how many denials there were. */
 typedef struct opal_shown {
     opal_code code;
     uint32_t interrupts; /* PxIS */
@@ -632,8 +632,9 @@ OPAL_MUST_USE static inline opal_code opal_port_new(opal_handle *port, const opa
 }
 
 /* What follows are the steps of a port. Each that is done has the next number, from 1, and tells it; one that is refused
-   has none, and the port is as before. All can be refused with OPAL_NULL, OPAL_MISALIGNED, OPAL_NOT_OPEN, OPAL_OTHER_KIND,
-   OPAL_PORT_HISTORY_FULL and OPAL_OUT_OF_MEMORY. The engine's are Issue, Accept, Complete and Recover. */
+   has none, and the port is as before. A port keeps no history of them: it takes as much memory after any number of steps.
+   All can be refused with OPAL_NULL, OPAL_MISALIGNED, OPAL_NOT_OPEN, OPAL_OTHER_KIND and OPAL_OUT_OF_MEMORY. The engine's are
+   Issue, Accept, Complete and Recover. */
 
 /* A client puts a request in the slot of a tag, with a copy of the payload. Clients have numbers of your choice. Refused:
    OPAL_TAG, OPAL_NUMBER, OPAL_LENGTH (a command that brings no bytes has a payload), OPAL_PORT_SIZE, OPAL_PORT_SLOT_BUSY. */
@@ -735,8 +736,8 @@ OPAL_MUST_USE static inline opal_shown opal_port_shown(const opal_handle *port)
 }
 
 /* Copies the line of the audit log at a place, as `6 1 deny read 100+1 range 1 ReadLocked`: the number of the step, the
-   client and the reason. Place 0 is the oldest; where there is no line it has no bytes. It has no zero behind it. Refused:
-   OPAL_ROOM, OPAL_OUT_OF_MEMORY. */
+   client and the reason. Place 0 is the oldest, and as many lines as opal_port_shown tells denials have places; the port keeps
+   the 64 latest. Where it has no line there are no bytes. It has no zero behind it. Refused: OPAL_ROOM, OPAL_OUT_OF_MEMORY. */
 OPAL_MUST_USE static inline opal_count opal_port_denial(const opal_handle *port, size_t place, char *into, size_t length)
 {
     opal_count refused = { opal_raw_into(port, into, length), 0 };

@@ -119,7 +119,7 @@ _WORDS = {
     Code.PORT_NOT_ANSWERED: "the slot has no answer yet",
     Code.PORT_NOT_YOURS: "the answer is another client's",
     Code.PORT_SIZE: "a transfer is empty, above 256 blocks, no whole blocks, or at no address of 48 bits",
-    Code.PORT_HISTORY_FULL: "the port has done 1,048,576 steps; make another one",
+    Code.PORT_HISTORY_FULL: "the history of the port is full; no port keeps one any more",
 }
 
 
@@ -708,8 +708,8 @@ class Port(_Object):
         return Shown(told.interrupts, told.task, told.active, told.issued, told.denials)
 
     def denial(self, place: int) -> str:
-        """The line of the audit log at a place, 0 the oldest, as `6 1 deny read 100+1 range 1 ReadLocked`; empty where it has
-        none there."""
+        """The line of the audit log at a place, 0 the oldest, as `6 1 deny read 100+1 range 1 ReadLocked`; empty where it is
+        none of the 64 latest."""
         with self._lock:
             return _written(_LIBRARY.port_denial, self._handle, _within(place, 2**64 - 1)).decode("ascii")
 

@@ -17,7 +17,7 @@ use Rattle.port_history.specs.declared.request.Request.{Request}
 use Rattle.port_history.specs.declared.request.Request.TheVariants.{Send, Receive}
 use Rattle.port_history.specs.declared.step.Step.{Step}
 use Rattle.port_history.specs.declared.step.Step.TheVariants.{Put, Issue, Accept}
-use Rattle.port_history.specs.Refusals.{AreLawful, IsLawful, refusal, has_slot}
+use Rattle.port_history.specs.Refusals.{AreLawful, IsLawful, refusal_with_room, has_slot}
 use Rattle.port_history.specs.Steps.{trace_of}
 use Rattle.history.specs.Tcg.{tcg}
 use Rattle.headline.specs.Steps.{event_after}
@@ -26,7 +26,7 @@ use Rattle.headline.specs.Steps.{event_after}
 abbrev pub are_lawful_by : Items → Origin → List Step → Bool
 are_lawful_by items o [] = true
 are_lawful_by items o (step ∷ before) =
-    has_slot step && is_none (refusal (trace_of items o before) step) && are_lawful_by items o before
+    has_slot step && is_none (refusal_with_room (trace_of items o before) step) && are_lawful_by items o before
 
 abbrev pub are_lawful : Origin → List Step → Bool
 are_lawful = are_lawful_by tcg
@@ -42,7 +42,7 @@ none_of (Some x) e = absurd (cc)
 pub lawful_by : (items : Items) (o : Origin) (list : List Step) → are_lawful_by items o list ≡ true → AreLawful items o list
 lawful_by items o [] e = tt
 lawful_by items o (step ∷ before) e =
-    let refused = refusal (trace_of items o before) step in
+    let refused = refusal_with_room (trace_of items o before) step in
     let p = both (has_slot step && is_none refused) (are_lawful_by items o before) e in
     let q = both (has_slot step) (is_none refused) p.0 in
     (q.0, none_of refused q.1, lawful_by items o before p.1)

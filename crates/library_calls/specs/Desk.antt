@@ -11,14 +11,14 @@ use Rattle.library_calls.specs.declared.byte_calls.error.CallError.{CallError}
 use Rattle.library_calls.specs.declared.byte_calls.error.CallError.TheVariants as calls
 use Rattle.library_calls.specs.Counts.{refused_count}
 use Rattle.library_calls.specs.Refusals.{code_of_call}
-use Rattle.port.specs.Agreement.{PortAgrees, MakesStep, NumbersStep, RefusesStep}
+use Rattle.port.specs.Live.{LiveAgrees, MakesStep, NumbersStep, RefusesStep}
 use Rattle.port_history.specs.declared.error.PortError.{PortError}
 use Rattle.port_history.specs.declared.error.PortError.TheVariants as errors
 use Rattle.port_history.specs.declared.request.Answer.{Answer}
 use Rattle.port_history.specs.declared.request.Request.{Request}
 use Rattle.port_history.specs.declared.step.Step.{Step}
 use Rattle.port_history.specs.declared.step.Step.TheVariants as steps
-use Rattle.port_history.specs.Ready.{engine_ready, chosen, with_step}
+use Rattle.port_history.specs.Ready.{engine_may, chosen, with_step}
 use Rattle.port_history.specs.Requests.{no_bytes}
 use Rattle.port_history.specs.Steps.{trace, answer}
 use Rattle.library_calls.specs.declared.port_calls.asked.Asked.{Asked}
@@ -81,10 +81,10 @@ pub record TakesAnswer (old new : PortDesk) (client tag : ℕ) (taken : Taken) :
   pub outcome : Result (ℕ × Answer) PortError
   pub told : taken ≡ told_take outcome
   pub agrees : MakesStep old.port new.port (steps.Take client tag) outcome
-  pub answer : IfOk outcome (λ r. (o : Origin) (list : List Step) → PortAgrees old.port o list
+  pub answer : IfOk outcome (λ r. (o : Origin) (list : List Step) → LiveAgrees old.port o list
       → (r.0 ≡ 1 + length (trace o list))
       × (r.1 ≡ unwrap_or (answer (trace o list) tag) no_bytes))
-  pub served : IfOk outcome (λ r. (o : Origin) (list : List Step) → PortAgrees old.port o list
+  pub served : IfOk outcome (λ r. (o : Origin) (list : List Step) → LiveAgrees old.port o list
       → IsServedAnswer tcg o list tag r.1)
   pub kept : IfOk outcome (λ r. new.last ≡ r.1)
   pub refused : RefusesStep old.port (steps.Take client tag) outcome
@@ -100,18 +100,18 @@ TakesUnder old new client tag taken = UnderTag (nat_lt tag slot_count)
 pub record TakesTurn (old new : PortDesk) (choice : ℕ) (count : Count) : Type 0 where
   pub outcome : Result (Option ℕ) PortError
   pub told : count ≡ told_turn outcome
-  pub agrees : OnOk outcome ((o : Origin) (list : List Step) → PortAgrees old.port o list
-      → PortAgrees new.port o (with_step (chosen choice (engine_ready o list)) list))
-  pub number : IfOk outcome (λ n. (o : Origin) (list : List Step) → PortAgrees old.port o list
-      → n ≡ option_map (λ _. 1 + length (trace o list)) (chosen choice (engine_ready o list)))
-  pub idle : (o : Origin) (list : List Step) → PortAgrees old.port o list
-      → engine_ready o list ≡ [] → (outcome ≡ Ok None) × (new.port ≡ old.port)
-  pub memory : IfErr outcome (λ e. (o : Origin) (list : List Step) → PortAgrees old.port o list
+  pub agrees : OnOk outcome ((o : Origin) (list : List Step) → LiveAgrees old.port o list
+      → LiveAgrees new.port o (with_step (chosen choice (engine_may o list)) list))
+  pub number : IfOk outcome (λ n. (o : Origin) (list : List Step) → LiveAgrees old.port o list
+      → n ≡ option_map (λ _. 1 + length (trace o list)) (chosen choice (engine_may o list)))
+  pub idle : (o : Origin) (list : List Step) → LiveAgrees old.port o list
+      → engine_may o list ≡ [] → (outcome ≡ Ok None) × (new.port ≡ old.port)
+  pub memory : IfErr outcome (λ e. (o : Origin) (list : List Step) → LiveAgrees old.port o list
       → e ≡ errors.OutOfMemory)
   pub err : OnErr outcome (new.port ≡ old.port)
   pub last : new.last ≡ old.last
 
 -- The steps that the engine may do, written out.
 abbrev pub ListsReady : PortDesk → List ReadyStep → List ReadyStep → Count → Type 0
-ListsReady desk old new count = (o : Origin) (list : List Step) → PortAgrees desk.port o list
-    → IsWrittenList (map ready_numbers (engine_ready o list)) old new count
+ListsReady desk old new count = (o : Origin) (list : List Step) → LiveAgrees desk.port o list
+    → IsWrittenList (map ready_numbers (engine_may o list)) old new count

@@ -5,8 +5,7 @@ use Rattle.locking.specs.declared.range.RangeRow.{RangeRow}
 use Rattle.history.specs.Opening.{Origin}
 use Rattle.drive.specs.State.{DriveState, Agrees}
 use Rattle.hba.specs.History.{State, AgreesHba}
-use Rattle.port.specs.Agreement.{PortAgrees}
-use Rattle.port.specs.State.{PortState}
+use Rattle.port.specs.Live.{LiveAgrees, LiveState}
 use Rattle.opalport_c.specs.Asked.{StartsAs}
 use Rattle.opalport_c.specs.HbaCalls.{HbaStartsAs}
 use Rattle.opalport_c.specs.PortCalls.{PortStartsAs}
@@ -15,6 +14,6 @@ pub hba_starts : (config : Config) (rows : List RangeRow) (drive : DriveState) (
     → ((o : Origin) → Agrees drive o [] → AgreesHba hba o []) → StartsAs config rows drive → HbaStartsAs config rows hba
 hba_starts config rows drive hba agrees starts = (starts.0, starts.1, agrees starts.0 starts.2)
 
-pub port_starts : (config : Config) (rows : List RangeRow) (drive : DriveState) (port : PortState)
-    → ((o : Origin) → Agrees drive o [] → PortAgrees port o []) → StartsAs config rows drive → PortStartsAs config rows port
+pub port_starts : (config : Config) (rows : List RangeRow) (drive : DriveState) (port : LiveState)
+    → ((o : Origin) → Agrees drive o [] → LiveAgrees port o []) → StartsAs config rows drive → PortStartsAs config rows port
 port_starts config rows drive port agrees starts = (starts.0, starts.1, agrees starts.0 starts.2)

@@ -20,7 +20,7 @@ kind_number (Hba desk) = 3
 -- the drive of an object, or behind it
 abbrev pub drive_of : Object → DriveState
 drive_of (Drive desk) = desk.drive
-drive_of (Port desk) = desk.port.drive
+drive_of (Port desk) = desk.port.bare.drive
 drive_of (Hba desk) = desk.hba.drive
 
 abbrev pub profile_number : Profile → ℕ

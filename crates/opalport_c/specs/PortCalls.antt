@@ -1,5 +1,5 @@
 -- What a call of a port by its handle does: nothing where the handle has no port; else what the call does with the port.
-use Rattle.std.specs.Prelude.{◌≡◌, ◌≢◌, ℕ, List, [], ◌∷◌, map, slice_get, Option, Some, None, Ok}
+use Rattle.std.specs.Prelude.{◌≡◌, ◌≢◌, ℕ, List, [], ◌∷◌, map, Option, Some, None, Ok}
 use Rattle.library_calls.specs.declared.byte_calls.count.Count.{Count}
 use Rattle.library_calls.specs.declared.byte_calls.error.CallError.{CallError}
 use Rattle.library_calls.specs.declared.byte_calls.error.CallError.TheVariants.{NotOpen, OtherKind, InUse}
@@ -12,8 +12,7 @@ use Rattle.history.specs.Opening.{Origin, opened_with}
 use Rattle.port_history.specs.Requests.{no_bytes}
 use Rattle.port_history.specs.declared.step.Step.{Step}
 use Rattle.port_history.specs.declared.step.Step.TheVariants.{Recover}
-use Rattle.port.specs.Agreement.{PortAgrees}
-use Rattle.port.specs.State.{PortState}
+use Rattle.port.specs.Live.{LiveAgrees, LiveState, line_kept}
 use Rattle.drive.specs.State.{DriveState, Agrees}
 use Rattle.library_calls.specs.Desk.{TakesStep, StepsUnder, PutsBy, ResetsBy, TakesUnder, TakesTurn, ListsReady}
 use Rattle.library_calls.specs.Shown.{shown_numbers, refused_shown, logged_text}
@@ -89,7 +88,7 @@ CopiesTaken had has into out count = ByPort had has (WritesNone into out count)
 
 abbrev pub CopiesLogged : Option Object → Option Object → ℕ → List ℕ → List ℕ → Count → Type 0
 CopiesLogged had has place into out count = ByPort had has (WritesNone into out count)
-    (λ old new. IsWrittenOut (logged_text (slice_get old.port.audit place)) into out count
+    (λ old new. IsWrittenOut (logged_text (line_kept old.port place)) into out count
     × (new ≡ old))
 
 -- What the port shows.
@@ -98,13 +97,13 @@ ShowsByHandle had has shown = ByPort had has (λ e. shown ≡ refused_shown e)
     (λ old new. (shown ≡ shown_numbers old.port) × (new ≡ old))
 
 -- What the drive of a port with these rows starts from: with none it is as it leaves the factory.
-abbrev pub PortStartsAs : Config → List RangeRow → PortState → Type 0
+abbrev pub PortStartsAs : Config → List RangeRow → LiveState → Type 0
 PortStartsAs config rows port =
-    (o : Origin) × (opened_with config rows ≡ Ok o) × PortAgrees port o []
+    (o : Origin) × (opened_with config rows ≡ Ok o) × LiveAgrees port o []
 
 -- A port over a drive starts from what the drive starts from.
-abbrev pub PortOver : DriveState → PortState → Type 0
-PortOver drive port = (o : Origin) → Agrees drive o [] → PortAgrees port o []
+abbrev pub PortOver : DriveState → LiveState → Type 0
+PortOver drive port = (o : Origin) → Agrees drive o [] → LiveAgrees port o []
 
 -- A handle with nothing is given a port of which nothing was taken yet, or nothing was done.
 pub record MakesPort (had has : Option Object) (size : Size) (msid serial model psid : List ℕ)

@@ -1,6 +1,6 @@
 //! What a handle has, where it is a port.
 
-ghost use Rattle.std.specs.Prelude.{◌≡◌, slice_get};
+ghost use Rattle.std.specs.Prelude.{◌≡◌};
 ghost use Rattle.library_calls.specs.Copies.{IsCopied, IsWrittenOut};
 ghost use Rattle.library_calls.specs.Counts.{refused_count};
 ghost use Rattle.library_calls.specs.Refusals.{code_of_call};
@@ -9,6 +9,7 @@ ghost use Rattle.opalport_c.specs.PortCalls.{OfPort};
 ghost use Rattle.library_calls.specs.Desk.{TakesStep, StepsUnder, PutsBy, ResetsBy, TakesUnder, TakesTurn, ListsReady};
 ghost use Rattle.library_calls.specs.Shown.{shown_numbers, refused_shown, logged_text};
 ghost use Rattle.library_calls.specs.PortCallsTold.{refused_take, answer_bytes};
+ghost use Rattle.port.specs.Live.{line_kept};
 ghost use Rattle.port_history.specs.declared.step.Step.TheVariants as steps;
 
 use crate::object::Object;
@@ -148,7 +149,7 @@ impl Object {
     /// Copies a line of the audit log of a port.
     pub(crate) fn copy_logged(&mut self, alloc: Global, place: usize, into: &mut [u8]) -> Count
         ensures { OfPort self.old self.new (WritesNone into.old into.new result)
-            (λ d e. IsWrittenOut (logged_text (slice_get d.port.audit place)) into.old
+            (λ d e. IsWrittenOut (logged_text (line_kept d.port place)) into.old
             into.new result × (e ≡ d)) }
     {
         match self {

@@ -16,7 +16,7 @@ use crate::object::Object;
 use drive::Drive;
 use library_calls::byte_calls::{CallError, Count, DONE};
 use library_calls::port_calls::{Asked, PortDesk, ReadyStep, Shown, Taken};
-use port::Port;
+use port::LivePort;
 use std::alloc::Global;
 
 /// The port over this drive, of which nothing was taken yet. What it takes of the stack is large: so it is a call of its own,
@@ -27,7 +27,7 @@ fn port_over(alloc: Global, drive: Drive) -> Result<Box<Object>, CallError>
         × (desk.last ≡ no_bytes) × PortOver drive desk.port) }
     ensures why { IfErr result (λ e. e ≡ OutOfMemory) }
 {
-    match Port::new(alloc, drive) {
+    match LivePort::new(alloc, drive) {
         Ok(port) => Object::Port(PortDesk::new(port)).boxed(alloc),
         Err(_) => Err(CallError::OutOfMemory),
     }
@@ -254,7 +254,7 @@ pub extern "C" fn opal_raw_port_data(handle: &mut Handle, alloc: Global, into: &
     told
 }
 
-/// What the port shows: its registers, and how many lines its audit log has.
+/// What the port shows: its registers, and how many denials there were.
 #[unsafe(no_mangle)]
 pub extern "C" fn opal_raw_port_shown(handle: &mut Handle, alloc: Global) -> Shown
     ensures { ShowsByHandle handle.old.place.kept handle.new.place.kept result }
@@ -267,7 +267,7 @@ pub extern "C" fn opal_raw_port_shown(handle: &mut Handle, alloc: Global) -> Sho
     told
 }
 
-/// Copies the line of the audit log at a place, 0 the oldest: no bytes where it has none there.
+/// Copies the line of the audit log at a place, 0 the oldest, if it is one of the 64 latest: else no bytes.
 #[unsafe(no_mangle)]
 pub extern "C" fn opal_raw_port_denial(
     handle: &mut Handle,

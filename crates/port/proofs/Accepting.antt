@@ -28,20 +28,20 @@ use Rattle.port_history.specs.declared.stages.Stage.{Stage}
 use Rattle.port_history.specs.declared.stages.Stage.TheVariants.{Issued, Accepted, Answered}
 use Rattle.port_history.specs.declared.step.Step.{Step}
 use Rattle.port_history.specs.declared.step.Step.TheVariants as steps
-use Rattle.port_history.specs.Refusals.{refusal}
+use Rattle.port_history.specs.Refusals.{refusal_with_room}
 use Rattle.port_history.specs.Registers.{registers, all_shown, restarted_if}
 use Rattle.port_history.specs.Requests.{command_fis, to_device, bytes_moved}
 use Rattle.port_history.specs.Stages.{is_queued_command, is_queued_put, to, put_at, accepted_stage}
 use Rattle.history.specs.Audit.{line_for}
 use Rattle.port_history.specs.Steps.{Effect, Moment, moment, effect_by, acceptance, accept_payload, act_of, act_before, event_before, executed_answer, answered_with, failing_by, has_failed, trace, events, acts, sent_fises, stage, failed, payload, answer, audit, accepted_rule}
-use Rattle.port_history.proofs.Tests.{none_holds, issued_is, none_is}
+use Rattle.port_history.proofs.Tests.{none_holds, tests_of, issued_is, none_is}
 use Rattle.port.specs.declared.outcome.Outcome.{Outcome}
 use Rattle.port.specs.declared.outcome.Outcome.TheVariants as outcomes
 use Rattle.port.specs.Agreement.{PortAgrees, TagAgrees, IsLaidAt}
 use Rattle.port.specs.Answers.{answer_in, outcome_at, stage_at, buffer_front}
 use Rattle.port.specs.Host.{IsLaid, IsReceived, fetched_of}
 use Rattle.port.specs.State.{PortState, IsAccepted, entry_of, failed_then, outcome_then, executed_outcome, has_error_status}
-use Rattle.port.proofs.Agreeing.{itself, tests_of, stage_here, stage_there, outcome_here, outcome_there, one_entry, tag_same, count_is}
+use Rattle.port.proofs.Agreeing.{itself, stage_here, stage_there, outcome_here, outcome_there, one_entry, tag_same, count_is}
 use Rattle.port.proofs.Lawful.{is_command_fis, issued_moves, issued_length, issued_small, accepted_fits}
 use Rattle.port.proofs.Memory.{IsSameSlot, same_received, same_but_done, laid_same, answer_same}
 
@@ -246,7 +246,7 @@ fetches port o list tag put lt h was =
     (fetched_of put tag, fetched_is port o list tag put lt h was, issued_small port.drive.tper.store.config o list tag put lt h.lawful was)
 
 pub accept_agrees : (old new : PortState) (o : Origin) (list : List Step) (tag : ℕ) → tag < 32
-    → PortAgrees old o list → refusal (trace o list) (steps.Accept tag) ≡ None
+    → PortAgrees old o list → refusal_with_room (trace o list) (steps.Accept tag) ≡ None
     → ((f : Fetched) → fetched old.memory tag ≡ Ok f → IsAccepted old new tag f.fis)
     → PortAgrees new o (steps.Accept tag ∷ list)
 accept_agrees old new o list tag lt h lawful made =

@@ -20,9 +20,9 @@ use Rattle.port_history.specs.declared.step.Step.TheVariants as steps
 use Rattle.port_history.specs.Requests.{no_bytes}
 use Rattle.port_history.specs.Stages.{is_queued_command, is_queued_put, to, put_at, is_out, keeps_back, mixes_put}
 use Rattle.port_history.specs.Steps.{Moment, moment, trace, acts, sent_fises, stage, failed, put_of, payload, answer, entry, entries}
-use Rattle.port_history.specs.Refusals.{most_steps, refusal, refusal_by, tests, has_slot}
+use Rattle.port_history.specs.Refusals.{most_steps, refusal, refusal_by, refusal_with_room, has_slot}
 use Rattle.port_history.specs.Registers.{registers, with_issue}
-use Rattle.port_history.proofs.Tests.{none_holds, free_is}
+use Rattle.port_history.proofs.Tests.{none_holds, free_is, tests_of}
 use Rattle.port.specs.declared.outcome.Outcome.{Outcome}
 use Rattle.port.specs.Agreement.{PortAgrees, TagStands, TagAgrees, IsLaidAt}
 use Rattle.port.specs.Answers.{answer_in, outcome_at, stage_at, taken}
@@ -33,11 +33,11 @@ use Rattle.port.proofs.Slots.{stage_set, outcome_set}
 use Rattle.port.proofs.Tests.{any_below-agree}
 
 -- lengths
-length_trace : (o : Origin) (list : List Step) → length (trace o list) ≡ length list
+pub length_trace : (o : Origin) (list : List Step) → length (trace o list) ≡ length list
 length_trace o [] = refl
 length_trace o (step ∷ before) = omega (arith, length_trace o before)
 
-length_entries : (o : Origin) (list : List Step) → length (entries o list) ≡ length list
+pub length_entries : (o : Origin) (list : List Step) → length (entries o list) ≡ length list
 length_entries o [] = refl
 length_entries o (step ∷ before) = omega (arith, length_entries o before)
 
@@ -56,7 +56,7 @@ mixes_agree p q (Some put) same =
     ap (λ (b : Bool). if is_queued_command put.command then b else any_below (λ t. is_out (p t)) 32) (any_below-agree (λ t. keeps_back put.number (p t)) (λ t. keeps_back put.number (q t)) 32 (λ t lt. ap (keeps_back put.number) (same t lt)))
     ∙ ap (λ (b : Bool). if is_queued_command put.command then any_below (λ t. keeps_back put.number (q t)) 32 else b) (any_below-agree (λ t. is_out (p t)) (λ t. is_out (q t)) 32 (λ t lt. ap is_out (same t lt)))
 
-refusal_agree : (full full' failure failure' : Bool) (p q : ℕ → Stage) (step : Step) → full ≡ full' → failure ≡ failure' → ((t : ℕ) → t < 32 → p t ≡ q t) → has_slot step ≡ true → refusal_by full failure p step ≡ refusal_by full' failure' q step
+pub refusal_agree : (full full' failure failure' : Bool) (p q : ℕ → Stage) (step : Step) → full ≡ full' → failure ≡ failure' → ((t : ℕ) → t < 32 → p t ≡ q t) → has_slot step ≡ true → refusal_by full failure p step ≡ refusal_by full' failure' q step
 refusal_agree full full' failure failure' p q (steps.Put client t request) e f same lt = rw (e, same t (ltb-true t 32 lt)) refl
 refusal_agree full full' failure failure' p q (steps.Issue t) e f same lt = rw (e, f, mixes_agree p q (put_at (p t)) same, same t (ltb-true t 32 lt)) refl
 refusal_agree full full' failure failure' p q (steps.Accept t) e f same lt = rw (e, f, same t (ltb-true t 32 lt)) refl
@@ -113,10 +113,6 @@ outcome_there outcomes now tag t x lt other e =
     ap (λ (l : List (Option Outcome)). outcome_at l t) e ∙ outcome_set outcomes tag t x lt
     ∙ ap (λ (b : Bool). if b then x else outcome_at outcomes t) (ne_eqb tag t other)
 
-abbrev pub tests_of : List Moment → Step → List (Bool × PortError)
-tests_of ms step =
-    tests (not (nat_lt (length ms) most_steps)) (is_some (failed ms)) (stage ms) step
-
 pub same_memory : (old new : List ℕ) (t : ℕ) → new ≡ old → IsSameSlot old new t
 same_memory old new t e = subst (λ (m : List ℕ). IsSameSlot old m t) (sym e) (same_refl old t)
 
@@ -140,7 +136,7 @@ put_tag old new o list client tag request lt h s free =
 
 pub put_agrees : (old new : PortState) (o : Origin) (list : List Step) (client tag : ℕ)
     (request : Request) → tag < 32 → PortAgrees old o list
-    → IsPut old new client tag request → refusal (trace o list) (steps.Put client tag request) ≡ None
+    → IsPut old new client tag request → refusal_with_room (trace o list) (steps.Put client tag request) ≡ None
     → PortAgrees new o (steps.Put client tag request ∷ list)
 put_agrees old new o list client tag request lt h s lawful =
     let ms = trace o list in
@@ -187,7 +183,7 @@ issue_tag old new o list tag lt h s =
     })
 
 pub issue_agrees : (old new : PortState) (o : Origin) (list : List Step) (tag : ℕ) → tag < 32
-    → PortAgrees old o list → refusal (trace o list) (steps.Issue tag) ≡ None
+    → PortAgrees old o list → refusal_with_room (trace o list) (steps.Issue tag) ≡ None
     → IsIssued old new tag → PortAgrees new o (steps.Issue tag ∷ list)
 issue_agrees old new o list tag lt h lawful s =
     let ms = trace o list in
@@ -240,7 +236,7 @@ take_tag old new o list client tag lt h s =
     })
 
 pub take_agrees : (old new : PortState) (o : Origin) (list : List Step) (client tag : ℕ) → tag < 32
-    → PortAgrees old o list → refusal (trace o list) (steps.Take client tag) ≡ None
+    → PortAgrees old o list → refusal_with_room (trace o list) (steps.Take client tag) ≡ None
     → IsTaken old new client tag → PortAgrees new o (steps.Take client tag ∷ list)
 take_agrees old new o list client tag lt h lawful s =
     let ms = trace o list in

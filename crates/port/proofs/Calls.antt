@@ -1,5 +1,6 @@
 -- What a call of the port owes, by its private step.
 use Rattle.port_history.proofs.Acted.{tcg_for_ports}
+use Rattle.port_history.proofs.Tests.{with_room}
 use Rattle.std.proofs.Common.{◌≡◌, ℕ, ◌+◌, true, List, ◌∷◌, length, Result, Ok, Err, Option, None, sym, ap, ◌∙◌, subst}
 use Rattle.std.specs.Prelude.{OnOk, IfOk, is_ok, is_none, unwrap_or, Some, ◌<◌}
 use Rattle.std.specs.Result.{result_err}
@@ -10,7 +11,7 @@ use Rattle.history.specs.Opening.{Origin}
 use Rattle.port_history.specs.declared.error.PortError.{PortError}
 use Rattle.port_history.specs.declared.step.Step.{Step}
 use Rattle.port_history.specs.Steps.{trace, answer}
-use Rattle.port_history.specs.Refusals.{refusal, has_slot, IsRefusedBy, IsTold}
+use Rattle.port_history.specs.Refusals.{refusal, refusal_with_room, has_slot, IsRefusedBy, IsTold}
 use Rattle.history.specs.Tcg.{tcg}
 use Rattle.port.specs.State.{PortState, refusal_on}
 use Rattle.port.specs.Answers.{taken}
@@ -27,9 +28,9 @@ numbered (Ok n) old e = λ o list h. e ∙ ap (λ (k : ℕ). 1 + k) (count_is ol
 numbered (Err error) old e = tt
 
 pub agrees_call : {A : Type 0} (Made : Type 0) (old new : PortState) (step : Step) (r : Result A PortError) → has_slot step ≡ true → IsRefusedBy (refusal_on old step) r → OnOk r Made
-    → ((o : Origin) (list : List Step) → PortAgrees old o list → refusal (trace o list) step ≡ None → Made → PortAgrees new o (step ∷ list))
+    → ((o : Origin) (list : List Step) → PortAgrees old o list → refusal_with_room (trace o list) step ≡ None → Made → PortAgrees new o (step ∷ list))
     → OnOk r ((o : Origin) (list : List Step) → PortAgrees old o list → PortAgrees new o (step ∷ list))
-agrees_call Made old new step (Ok a) slot told made keep = λ o list h. keep o list h (sym (same_refusal old o list step h slot) ∙ told) made
+agrees_call Made old new step (Ok a) slot told made keep = λ o list h. keep o list h (with_room (trace o list) step (sym (same_refusal old o list step h slot) ∙ told)) made
 agrees_call Made old new step (Err error) slot told made keep = tt
 
 pub answered_call : (r : Result (ℕ × Answer) PortError) (old : PortState) (tag : ℕ) → tag < 32 → IfOk r (λ x. (x.0 ≡ 1 + length old.history) × (x.1 ≡ taken old.memory tag (outcome_at old.outcomes tag)))
@@ -47,9 +48,9 @@ served_call (Err error) old tag e = tt
 
 -- the same where the private step tells its refusals of a port that agrees
 pub agrees_where : {A : Type 0} (Made : Type 0) (old new : PortState) (step : Step) (r : Result A PortError) → has_slot step ≡ true → ((o : Origin) (list : List Step) → PortAgrees old o list → IsRefusedBy (refusal_on old step) r) → OnOk r Made
-    → ((o : Origin) (list : List Step) → PortAgrees old o list → refusal (trace o list) step ≡ None → Made → PortAgrees new o (step ∷ list))
+    → ((o : Origin) (list : List Step) → PortAgrees old o list → refusal_with_room (trace o list) step ≡ None → Made → PortAgrees new o (step ∷ list))
     → OnOk r ((o : Origin) (list : List Step) → PortAgrees old o list → PortAgrees new o (step ∷ list))
-agrees_where Made old new step (Ok a) slot told made keep = λ o list h. keep o list h (sym (same_refusal old o list step h slot) ∙ told o list h) made
+agrees_where Made old new step (Ok a) slot told made keep = λ o list h. keep o list h (with_room (trace o list) step (sym (same_refusal old o list step h slot) ∙ told o list h)) made
 agrees_where Made old new step (Err error) slot told made keep = tt
 
 pub told_is : {A : Type 0} (r : Result A PortError) (refused : Option PortError) → IsTold refused r → is_ok r ≡ is_none refused

@@ -25,16 +25,16 @@ use Rattle.port_history.specs.declared.stages.Stage.{Stage}
 use Rattle.port_history.specs.declared.stages.Stage.TheVariants.{Accepted, Answered}
 use Rattle.port_history.specs.declared.step.Step.{Step}
 use Rattle.port_history.specs.declared.step.Step.TheVariants as steps
-use Rattle.port_history.specs.Refusals.{refusal}
+use Rattle.port_history.specs.Refusals.{refusal_with_room}
 use Rattle.port_history.specs.Registers.{registers, all_shown}
 use Rattle.port_history.specs.Stages.{put_at, to}
 use Rattle.port_history.specs.Steps.{Effect, Moment, moment, effect_by, line_of, trace, events, acts, sent_fises, stage, failed, payload, audit}
-use Rattle.port_history.proofs.Tests.{none_holds, accepted_is, none_is}
+use Rattle.port_history.proofs.Tests.{none_holds, tests_of, accepted_is, none_is}
 use Rattle.port.specs.Agreement.{PortAgrees, TagAgrees, IsLaidAt}
 use Rattle.port.specs.Answers.{answer_in, buffer_front}
 use Rattle.port.specs.Host.{IsLaid, IsReceived}
 use Rattle.port.specs.State.{PortState, IsCompleted, IsReady, entry_of}
-use Rattle.port.proofs.Agreeing.{itself, tests_of, stage_here, stage_there, outcome_here, outcome_there, one_entry, tag_same}
+use Rattle.port.proofs.Agreeing.{itself, stage_here, stage_there, outcome_here, outcome_there, one_entry, tag_same}
 use Rattle.port.proofs.Accepting.{events_are}
 use Rattle.port.proofs.Lawful.{accepted_held, completed_length, completed_small, completed_fits}
 use Rattle.port.proofs.Memory.{same_but_done}
@@ -104,7 +104,7 @@ held_now port o list tag h =
     h.drive.held tag ∙ ap (λ (past : List Event). held past tag) (sym (events_are o list))
 
 pub complete_agrees : (old new : PortState) (o : Origin) (list : List Step) (tag : ℕ) → tag < 32
-    → PortAgrees old o list → refusal (trace o list) (steps.Complete tag) ≡ None
+    → PortAgrees old o list → refusal_with_room (trace o list) (steps.Complete tag) ≡ None
     → IsCompleted old new tag → PortAgrees new o (steps.Complete tag ∷ list)
 complete_agrees old new o list tag lt h lawful s =
     let ms = trace o list in
@@ -160,7 +160,7 @@ none_not x e = ap (option_map (λ (h : HeldCommand). h.command)) e
 
 pub ready : (port : PortState) (o : Origin) (list : List Step) (tag : ℕ) (put : Put) → tag < 32
     → PortAgrees port o list → failed (trace o list) ≡ None → stage (trace o list) tag ≡ Accepted put
-    → IsReady port tag
+    → IsReady port.drive tag
 ready port o list tag put lt h mended was = record {
   o = o;
   acts = acts o list;

@@ -11,3 +11,5 @@ pub mod Accepting
 pub mod Completing
 pub mod Restarting
 pub mod Readies
+pub mod Layers
+pub mod Living

@@ -15,7 +15,7 @@ use Rattle.port_history.specs.declared.step.Step.{Step}
 use Rattle.port_history.specs.declared.step.Step.TheVariants as steps
 use Rattle.port_history.specs.Stages.{mixes}
 use Rattle.port.specs.Answers.{stage_at}
-use Rattle.port.specs.State.{PortState, is_history_full, refusal_on}
+use Rattle.port.specs.State.{BareState, PortState, is_history_full, refusal_on, refusal_on_bare}
 use Rattle.port_history.specs.Refusals.{first_refusal, IsRefusedBy}
 use Rattle.port_history.specs.Ready.{those, count_passing, ready_steps, chosen, as_step}
 use Rattle.port_history.specs.declared.step.EngineStep.TheVariants as engine
@@ -87,13 +87,13 @@ pub as_long : (first now : List EngineStep) (step : ℕ → EngineStep) (p : ℕ
 as_long first now step p n e fails =
     e ∙ ap (λ (xs : List EngineStep). first ++ xs) (sym (those_next step p n ∙ ap (λ (b : Bool). those step p n ++ (if b then step n ∷ [] else [])) fails ∙ append-nil (those step p n)))
 
-abbrev pub allows : PortState → (ℕ → Step) → ℕ → Bool
-allows port step t = is_none (refusal_on port (step t))
+abbrev pub allows : BareState → (ℕ → Step) → ℕ → Bool
+allows port step t = is_none (refusal_on_bare port (step t))
 
-apart : (port : PortState) (t : ℕ) → one (allows port steps.Issue t) + one (allows port steps.Accept t) + one (allows port steps.Complete t) ≤ 1
-apart port t = kinds (is_history_full port) (is_some port.failed) (mixes (stage_at port.slots) (stage_at port.slots t)) (stage_at port.slots t)
+apart : (port : BareState) (t : ℕ) → one (allows port steps.Issue t) + one (allows port steps.Accept t) + one (allows port steps.Complete t) ≤ 1
+apart port t = kinds false (is_some port.failed) (mixes (stage_at port.slots) (stage_at port.slots t)) (stage_at port.slots t)
 
-pub sum_small : (port : PortState) → count_passing (allows port steps.Issue) 32 + count_passing (allows port steps.Accept) 32 + count_passing (allows port steps.Complete) 32 ≤ 32
+pub sum_small : (port : BareState) → count_passing (allows port steps.Issue) 32 + count_passing (allows port steps.Accept) 32 + count_passing (allows port steps.Complete) 32 ≤ 32
 sum_small port = three (allows port steps.Issue) (allows port steps.Accept) (allows port steps.Complete) 32 (apart port)
 
 pub count_of_list : (first now : List EngineStep) (step : ℕ → EngineStep) (p : ℕ → Bool) (n : ℕ) → now ≡ first ++ those step p n → length now ≡ length first + count_passing p n
@@ -105,9 +105,9 @@ alone true failure rest e = absurd cc
 alone false true rest e = refl
 alone false false rest e = absurd cc
 
-pub sum_alone : (port : PortState) → is_none (refusal_on port steps.Recover) ≡ true → count_passing (allows port steps.Issue) 32 + count_passing (allows port steps.Accept) 32 + count_passing (allows port steps.Complete) 32 ≡ 0
+pub sum_alone : (port : BareState) → is_none (refusal_on_bare port steps.Recover) ≡ true → count_passing (allows port steps.Issue) 32 + count_passing (allows port steps.Accept) 32 + count_passing (allows port steps.Complete) 32 ≡ 0
 sum_alone port e =
-    let f = alone (is_history_full port) (is_some port.failed) in
+    let f = alone false (is_some port.failed) in
     omega (
       arith,
       count_none (allows port steps.Issue) 32 (λ t. f ((not (is_prepared (stage_at port.slots t)), NotPrepared) ∷ (mixes (stage_at port.slots) (stage_at port.slots t), Queue) ∷ []) e),

@@ -21,20 +21,20 @@ use Rattle.port_history.specs.declared.stages.Stage.{Stage}
 use Rattle.port_history.specs.declared.stages.Stage.TheVariants.{Free, Prepared, Issued, Accepted, Answered}
 use Rattle.port_history.specs.declared.step.Step.{Step}
 use Rattle.port_history.specs.declared.step.Step.TheVariants as steps
-use Rattle.port_history.specs.Refusals.{refusal}
+use Rattle.port_history.specs.Refusals.{refusal_with_room}
 use Rattle.port_history.specs.Registers.{registers, all_shown, restarted, reset_regs}
 use Rattle.port_history.specs.Requests.{log_fis}
 use Rattle.port_history.specs.Stages.{recovered, stage_after_reset, is_pending}
 use Rattle.history.specs.Audit.{line_for}
 use Rattle.port_history.specs.Steps.{Effect, effect_by, recovered_answer, is_tag, trace, events, acts, sent_fises, stage, failed, payload, answer, audit}
-use Rattle.port_history.proofs.Tests.{none_holds}
+use Rattle.port_history.proofs.Tests.{none_holds, tests_of}
 use Rattle.port.specs.declared.outcome.Outcome.{Outcome}
 use Rattle.port.specs.Agreement.{PortAgrees, IsLaidAt}
 use Rattle.port.specs.Answers.{answer_in, outcome_at, outcome_after_reset, outcome_recovered}
 use Rattle.port.specs.Host.{IsReceived}
 use Rattle.port.specs.State.{PortState, IsRecovered, IsReset, named_in, entry_of}
 use Rattle.port.proofs.Accepting.{events_are}
-use Rattle.port.proofs.Agreeing.{tests_of, one_entry, received_kept}
+use Rattle.port.proofs.Agreeing.{one_entry, received_kept}
 use Rattle.port.proofs.Lawful.{Recovery, recovery}
 use Rattle.port.proofs.Memory.{IsSameSlot, same_received, laid_same, answer_same}
 
@@ -60,7 +60,7 @@ answer_recovered memory t true status error x a fl is_status is_error e =
 answer_recovered memory t false status error x a fl is_status is_error e = e
 
 pub recover_agrees : (old new : PortState) (o : Origin) (list : List Step) → PortAgrees old o list
-    → refusal (trace o list) steps.Recover ≡ None → IsRecovered old new
+    → refusal_with_room (trace o list) steps.Recover ≡ None → IsRecovered old new
     → PortAgrees new o (steps.Recover ∷ list)
 recover_agrees old new o list h lawful s =
     let ms = trace o list in
@@ -122,7 +122,7 @@ reset_answer memory t true outcome a e = refl
 reset_answer memory t false outcome a e = e
 
 pub reset_agrees : (old new : PortState) (o : Origin) (list : List Step) (client : ℕ) (kind : ResetKind)
-    → PortAgrees old o list → refusal (trace o list) (steps.Reset client kind) ≡ None
+    → PortAgrees old o list → refusal_with_room (trace o list) (steps.Reset client kind) ≡ None
     → IsReset old new client kind → PortAgrees new o (steps.Reset client kind ∷ list)
 reset_agrees old new o list client kind h lawful s =
     let ms = trace o list in

@@ -2,4 +2,5 @@ pub mod Answers
 pub mod Host
 pub mod State
 pub mod Agreement
+pub mod Live
 pub mod Built

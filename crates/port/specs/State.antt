@@ -1,5 +1,5 @@
 -- What contracts see of a port, and what each step makes of it.
-use Rattle.std.specs.Prelude.{◌≡◌, ℕ, ◌+◌, ◌++◌, ◌∷◌, ◌≤◌, ◌<◌, ◌==◌, ◌&&◌, ◌%◌, Bool, true, false, not, nat_lt, List, [], length, reverse, slice_index, slice_set, is_some, Option, Some, None, if◌then◌else◌}
+use Rattle.std.specs.Prelude.{◌≡◌, ℕ, ◌+◌, ◌++◌, ◌∷◌, ◌≤◌, ◌<◌, ◌==◌, ◌&&◌, ◌%◌, Bool, true, false, not, nat_lt, List, [], length, reverse, slice_index, slice_set, is_some, option_to_list, Option, Some, None, if◌then◌else◌}
 use Rattle.audit.specs.declared.reason.AuditLine.{AuditLine}
 use Rattle.audit.specs.declared.rules.rule.Rule.{Rule}
 use Rattle.fis.specs.H2d.{h2d_at}
@@ -49,6 +49,31 @@ pub record PortState : Type 0 where
   pub audit : List AuditLine
   pub rule : Option Rule
 
+-- What a port has beside its history and its audit log, and how many steps it made.
+pub record BareState : Type 0 where
+  pub drive : DriveState
+  pub slots : List Stage
+  pub outcomes : List (Option Outcome)
+  pub failed : Option ℕ
+  pub memory : List ℕ
+  pub regs : Regs
+  pub count : ℕ
+  pub rule : Option Rule
+
+-- The port with a history and an audit log.
+abbrev pub with_history : BareState → List Entry → List AuditLine → PortState
+with_history bare history audit = record {
+  drive = bare.drive;
+  slots = bare.slots;
+  outcomes = bare.outcomes;
+  failed = bare.failed;
+  memory = bare.memory;
+  regs = bare.regs;
+  history = history;
+  audit = audit;
+  rule = bare.rule;
+}
+
 -- A port that did nothing.
 pub record IsFresh (port : PortState) (drive : DriveState) : Type 0 where
   pub its_drive : port.drive ≡ drive
@@ -71,9 +96,32 @@ abbrev pub refusal_on : PortState → Step → Option PortError
 refusal_on port step =
     refusal_by (is_history_full port) (is_some port.failed) (stage_at port.slots) step
 
+-- The same where there is room for a step.
+abbrev pub refusal_on_bare : BareState → Step → Option PortError
+refusal_on_bare bare step = refusal_by false (is_some bare.failed) (stage_at bare.slots) step
+
+-- What a step makes of a port, whatever history of as many steps it has, and whatever audit log; and the same with the
+-- line of a denial, if there was one.
+abbrev pub MakesBare : BareState → BareState → Entry → (PortState → PortState → Type 0) → Type 0
+MakesBare old new entry made =
+    (history : List Entry) (audit : List AuditLine) → length history ≡ old.count
+    → made (with_history old history audit) (with_history new (history ++ entry ∷ []) audit)
+
+abbrev pub MakesNoted : BareState → BareState → Entry → Option AuditLine
+    → (PortState → PortState → Type 0) → Type 0
+MakesNoted old new entry line made =
+    (history : List Entry) (audit : List AuditLine) → length history ≡ old.count
+    → made (with_history old history audit)
+    (with_history new (history ++ entry ∷ []) (audit ++ option_to_list line))
+
 -- The entry of a step that replies no bytes.
 abbrev pub entry_of : Step → Entry
 entry_of step = record { step = step; reply = no_bytes }
+
+-- The entry of a Take: what it took is the outcome of the slot.
+abbrev pub taken_entry : ℕ → ℕ → List ℕ → Option Outcome → Entry
+taken_entry client tag memory outcome =
+    record { step = steps.Take client tag; reply = taken memory tag outcome }
 
 -- The FISes are received, behind those of any list.
 abbrev pub Receives : List ℕ → List ℕ → List Fis → Type 0
@@ -238,17 +286,14 @@ pub record IsTaken (old new : PortState) (client tag : ℕ) : Type 0 where
   pub memory : new.memory ≡ old.memory
   pub regs : new.regs ≡ old.regs
   pub history : new.history
-      ≡ old.history ++ (record {
-        step = steps.Take client tag;
-        reply = taken old.memory tag (outcome_at old.outcomes tag);
-      }) ∷ []
+      ≡ old.history ++ taken_entry client tag old.memory (outcome_at old.outcomes tag) ∷ []
   pub audit : new.audit ≡ old.audit
   pub rule : new.rule ≡ old.rule
 
 -- The drive holds a command under the tag, whose data the buffer has room for.
-pub record IsReady (port : PortState) (tag : ℕ) : Type 0 where
+pub record IsReady (drive : DriveState) (tag : ℕ) : Type 0 where
   pub o : Origin
   pub acts : List Act
-  pub stands : DriveAgrees port.drive o acts
+  pub stands : DriveAgrees drive o acts
   pub holds : held (log o acts) tag ≡ None → ⊥
-  pub fits : expected (held_at port.drive.queue tag) ≤ buffer_size
+  pub fits : expected (held_at drive.queue tag) ≤ buffer_size

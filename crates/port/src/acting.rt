@@ -1,26 +1,19 @@
 //! The steps of clients and of the engine.
 
-ghost use Rattle.std.specs.Prelude.{◌≡◌, ◌<◌, ◌++◌, vec_len, vec_capacity};
-ghost use Rattle.history.specs.Audit.{line_for};
+ghost use Rattle.std.specs.Prelude.{◌≡◌, ◌<◌, ◌++◌, vec_len, vec_capacity, option_to_list};
 
-use crate::host;
-use crate::outcome::{Outcome, outcome_then};
 use crate::port::Port;
-use crate::registers::show_answer;
-use crate::stages::{accepted_stage, failed_then};
-use audit::{AuditLine, Why};
-use drive::DriveError;
+use audit::AuditLine;
 use fis::Tag;
-use port_history::{Answer, EngineStep, PortError, Put, Request, Stage, is_queued, show_all};
-use slots::BUFFER;
+use port_history::{Answer, EngineStep, PortError, Request};
 
 /// Adds the line of a denial, if there was one.
-fn note(audit: &mut Vec<AuditLine>, step: u64, client: u32, denied: Option<Why>)
+fn note(audit: &mut Vec<AuditLine>, line: Option<AuditLine>)
     requires { vec_len audit.old < vec_capacity audit.old }
-    ensures { audit.new.items ≡ audit.old.items ++ line_for step client denied }
+    ensures { audit.new.items ≡ audit.old.items ++ option_to_list line }
 {
-    if let Some(why) = denied {
-        audit.push_reserved(AuditLine { step, client, why });
+    if let Some(line) = line {
+        audit.push_reserved(line);
     }
 }
 
@@ -34,6 +27,7 @@ impl Port {
     ghost use Rattle.history.specs.Opening.{Origin};
     ghost use Rattle.history.specs.Tcg.{tcg};
     ghost use Rattle.port_history.specs.declared.stages.Put.{Put};
+    ghost use Rattle.port_history.specs.declared.stages.Stage.TheVariants as stages;
     ghost use Rattle.port_history.specs.declared.step.Step.{Step};
     ghost use Rattle.port_history.specs.declared.step.Step.TheVariants as steps;
     ghost use Rattle.port_history.specs.Refusals.{refusal, IsRefusedBy};
@@ -72,17 +66,9 @@ impl Port {
         ensures err { OnErr result (self.new ≡ self.old) }
     {
         self.may_put(tag, &request)?;
-        let number = self.next_number();
-        let command = request.command();
+        let number = self.bare.next_number()?;
         self.history.reserve_put()?;
-        host::lay(&mut self.memory, tag, command, request.payload());
-        let put = Put {
-            client,
-            number,
-            command,
-        };
-        self.slots.set(tag, Stage::Prepared(put));
-        self.outcomes[usize::from(tag.number())] = None;
+        self.bare.lay(client, tag, &request, number);
         self.history.push_put(client, tag, request);
         Ok(number)
     }
@@ -109,10 +95,9 @@ impl Port {
         ensures err { OnErr result (self.new ≡ self.old) }
     {
         let put = self.prepared(tag)?;
-        let number = self.next_number();
+        let number = self.bare.next_number()?;
         self.history.reserve()?;
-        self.slots.set(tag, Stage::Issued(put));
-        self.regs.set_issue(tag, is_queued(put.command));
+        self.bare.issue_put(tag, put, number);
         self.history.push_engine(EngineStep::Issue { tag });
         Ok(number)
     }
@@ -133,7 +118,7 @@ impl Port {
     }
 
     fn do_accept(&mut self, tag: Tag) -> Result<u64, PortError>
-        ensures refused { ((put : Put) → stage_at self.old.slots tag ≡ Stage.Issued put
+        ensures refused { ((put : Put) → stage_at self.old.slots tag ≡ stages.Issued put
             → (f : Fetched) × (fetched self.old.memory tag ≡ Ok f)
             × (payload_of self.old.drive.tper.store.config f.fis ≤ buffer_size))
             → IsRefusedBy (refusal_on self.old (steps.Accept tag)) result }
@@ -144,41 +129,11 @@ impl Port {
         ensures err { OnErr result (self.new ≡ self.old) }
     {
         let put = self.issued(tag)?;
-        let Ok(command) = self.memory.fetch(tag) else {
-            return Err(PortError::NotIssued);
-        };
-        let len = self.drive.payload_len(&command.fis);
-        if len > BUFFER {
-            return Err(PortError::NotIssued);
-        }
-        let number = self.next_number();
+        let number = self.bare.next_number()?;
         self.history.reserve()?;
         self.audit.reserve(1)?;
-        let payload = host::front(&self.memory, tag, len);
-        let Ok(()) = self
-            .drive
-            .accept_into(&command.fis, payload, &mut self.answer)
-        else {
-            return Err(PortError::OutOfMemory);
-        };
-        let queued = is_queued(put.command);
-        let has_failed = self.answer.has_failed();
-        let told = self.answer.fises();
-        let fises = told.as_slice();
-        let bytes = &self.answer.bytes;
-        let len = host::take_in(&mut self.memory, tag, queued, fises, bytes);
-        show_answer(&mut self.regs, tag, queued, has_failed, fises);
-        let slot = usize::from(tag.number());
-        self.slots.set(tag, accepted_stage(put));
-        self.outcomes[slot] = outcome_then(queued, &self.answer, len, self.outcomes[slot]);
-        self.failed = failed_then(queued, has_failed, tag, self.failed);
-        self.rule = self.answer.rule;
-        note(
-            &mut self.audit,
-            number,
-            put.client,
-            self.answer.denied.take(),
-        );
+        let line = self.bare.accept_put(tag, put, number)?;
+        note(&mut self.audit, line);
         self.history.push_engine(EngineStep::Accept { tag });
         Ok(number)
     }
@@ -198,8 +153,8 @@ impl Port {
     }
 
     fn do_complete(&mut self, tag: Tag) -> Result<u64, PortError>
-        ensures refused { ((put : Put) → stage_at self.old.slots tag ≡ Stage.Accepted put
-            → self.old.failed ≡ None → IsReady self.old tag)
+        ensures refused { ((put : Put) → stage_at self.old.slots tag ≡ stages.Accepted put
+            → self.old.failed ≡ None → IsReady self.old.drive tag)
             → IsRefusedBy (refusal_on self.old (steps.Complete tag)) result }
         ensures number { IfOk result (λ n. n ≡ 1 + length self.old.history) }
         ensures state { OnOk result (IsCompleted self.old self.new tag) }
@@ -207,26 +162,9 @@ impl Port {
         ensures err { OnErr result (self.new ≡ self.old) }
     {
         let put = self.accepted(tag)?;
-        let len = self.drive.expects(tag);
-        if len > BUFFER {
-            return Err(PortError::NotAccepted);
-        }
-        let number = self.next_number();
+        let number = self.bare.next_number()?;
         self.history.reserve()?;
-        let payload = host::front(&self.memory, tag, len);
-        let done = match self.drive.complete(tag, payload) {
-            Ok(done) => done,
-            Err(DriveError::NotHeld) => return Err(PortError::NotAccepted),
-            Err(DriveError::OutOfMemory) => return Err(PortError::OutOfMemory),
-        };
-        let told = done.fises();
-        let fises = told.as_slice();
-        let len = host::take_in(&mut self.memory, tag, false, fises, &done.bytes);
-        show_all(&mut self.regs, tag, fises);
-        let slot = usize::from(tag.number());
-        self.slots.set(tag, Stage::Answered(put));
-        self.outcomes[slot] = Some(Outcome::Done(len));
-        self.drive.give_back(done.bytes);
+        self.bare.complete_put(tag, put, number)?;
         self.history.push_engine(EngineStep::Complete { tag });
         Ok(number)
     }
@@ -263,14 +201,11 @@ impl Port {
         ensures err { OnErr result (self.new ≡ self.old) }
     {
         let _put = self.answered(client, tag)?;
-        let slot = usize::from(tag.number());
-        let outcome = self.outcomes[slot].unwrap_or(Outcome::Done(0));
-        let answer = host::answer(&self.memory, self.alloc, tag, outcome)?;
+        let number = self.bare.next_number()?;
+        let answer = self.bare.answer(tag)?;
         let reply = answer.share()?;
-        let number = self.next_number();
         self.history.reserve_take()?;
-        self.slots.set(tag, Stage::Free);
-        self.outcomes[slot] = None;
+        self.bare.set_free(tag, number);
         self.history.push_take(client, tag, reply);
         Ok((number, answer))
     }

@@ -6,7 +6,7 @@ ghost use Rattle.port_history.specs.Requests.{is_sized};
 use crate::host;
 use crate::port::Port;
 use fis::Tag;
-use port_history::{PortError, Put, Request, Stage};
+use port_history::{PortError, Request};
 use slots::CommandBlock;
 use std::marker::Model;
 
@@ -96,20 +96,14 @@ impl Port {
         if let Err(error) = self.may_put(built.tag, &built.request) {
             return Err((error, built));
         }
+        let Ok(number) = self.bare.next_number() else {
+            return Err((PortError::OutOfMemory, built));
+        };
         if self.history.reserve_put().is_err() {
             return Err((PortError::OutOfMemory, built));
         }
-        let number = self.next_number();
         let Built { tag, request, fis } = built;
-        let command = request.command();
-        host::lay_block(&mut self.memory, tag, &fis, command, request.payload());
-        let put = Put {
-            client,
-            number,
-            command,
-        };
-        self.slots.set(tag, Stage::Prepared(put));
-        self.outcomes[usize::from(tag.number())] = None;
+        self.bare.lay_built(client, tag, &fis, &request, number);
         self.history.push_put(client, tag, request);
         Ok(number)
     }

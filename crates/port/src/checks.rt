@@ -77,7 +77,7 @@ impl Port {
     }
 
     /// There is room for a step.
-    fn room(&self) -> Result<(), PortError>
+    pub(crate) fn room(&self) -> Result<(), PortError>
         ensures { MatchResult result (λ _. is_history_full self.now ≡ false)
             (λ e. (is_history_full self.now ≡ true) × (e ≡ PortError.HistoryFull)) }
     {
@@ -87,44 +87,15 @@ impl Port {
         Ok(())
     }
 
-    /// There is room for a step, and no command has failed.
-    fn running(&self) -> Result<(), PortError>
-        ensures { MatchResult result (λ _. (is_history_full self.now ≡ false) × (self.now.failed
-            ≡ None))
-            (λ e. ((is_history_full self.now ≡ true) × (e ≡ PortError.HistoryFull))
-            ⊎ ((is_history_full self.now ≡ false) × (is_some self.now.failed ≡ true)
-            × (e ≡ PortError.Failed))) }
-    {
-        self.room()?;
-        if self.failed.is_some() {
-            return Err(PortError::Failed);
-        }
-        Ok(())
-    }
-
-    /// The number of the next step.
-    pub(crate) fn next_number(&self) -> u64
-        ensures { result ≡ 1 + length self.now.history }
-    {
-        self.history.len() as u64 + 1
-    }
-
     /// A request may be put in the slot.
     pub(crate) fn may_put(&self, tag: Tag, request: &Request) -> Result<(), PortError>
         ensures order { (client : ℕ)
             → IsTold (refusal_on self.now (steps.Put client tag request.now)) result }
         ensures sized { IfOk result (λ _. is_sized request.now ≡ true) }
+        ensures room { IfOk result (λ _. is_history_full self.now ≡ false) }
     {
         self.room()?;
-        if !request.is_sized() {
-            return Err(PortError::Size);
-        }
-        match self.stage(tag) {
-            Stage::Free => Ok(()),
-            Stage::Prepared(_) | Stage::Issued(_) | Stage::Accepted(_) | Stage::Answered(_) => {
-                Err(PortError::SlotBusy)
-            }
-        }
+        self.bare.may_put(tag, request)
     }
 
     /// The Put of a slot that may be issued.
@@ -132,18 +103,8 @@ impl Port {
         ensures order { IsTold (refusal_on self.now (steps.Issue tag)) result }
         ensures put { IfOk result (λ put. stage_at self.now.slots tag ≡ Stage.Prepared put) }
     {
-        self.running()?;
-        match self.stage(tag) {
-            Stage::Prepared(put) => {
-                if self.slots.mixes(put) {
-                    return Err(PortError::Queue);
-                }
-                Ok(put)
-            }
-            Stage::Free | Stage::Issued(_) | Stage::Accepted(_) | Stage::Answered(_) => {
-                Err(PortError::NotPrepared)
-            }
-        }
+        self.room()?;
+        self.bare.prepared(tag)
     }
 
     /// The Put of a slot that the device may take.
@@ -151,13 +112,8 @@ impl Port {
         ensures order { IsTold (refusal_on self.now (steps.Accept tag)) result }
         ensures put { IfOk result (λ put. stage_at self.now.slots tag ≡ Stage.Issued put) }
     {
-        self.running()?;
-        match self.stage(tag) {
-            Stage::Issued(put) => Ok(put),
-            Stage::Free | Stage::Prepared(_) | Stage::Accepted(_) | Stage::Answered(_) => {
-                Err(PortError::NotIssued)
-            }
-        }
+        self.room()?;
+        self.bare.issued(tag)
     }
 
     /// The Put of a slot that the device may complete.
@@ -166,13 +122,8 @@ impl Port {
         ensures put { IfOk result (λ put. stage_at self.now.slots tag ≡ Stage.Accepted put) }
         ensures mended { IfOk result (λ _. self.now.failed ≡ None) }
     {
-        self.running()?;
-        match self.stage(tag) {
-            Stage::Accepted(put) => Ok(put),
-            Stage::Free | Stage::Prepared(_) | Stage::Issued(_) | Stage::Answered(_) => {
-                Err(PortError::NotAccepted)
-            }
-        }
+        self.room()?;
+        self.bare.accepted(tag)
     }
 
     /// The port may recover.
@@ -181,16 +132,14 @@ impl Port {
         ensures failed { IfOk result (λ _. is_some self.now.failed ≡ true) }
     {
         self.room()?;
-        if self.failed.is_none() {
-            return Err(PortError::NotFailed);
-        }
-        Ok(())
+        self.bare.has_failed()
     }
 
     /// The port may be reset.
     pub(crate) fn may_reset(&self) -> Result<(), PortError>
-        ensures { (client : ℕ) (kind : ResetKind)
+        ensures order { (client : ℕ) (kind : ResetKind)
             → IsTold (refusal_on self.now (steps.Reset client kind)) result }
+        ensures room { IfOk result (λ _. is_history_full self.now ≡ false) }
     {
         self.room()
     }
@@ -201,16 +150,6 @@ impl Port {
         ensures put { IfOk result (λ put. stage_at self.now.slots tag ≡ Stage.Answered put) }
     {
         self.room()?;
-        match self.stage(tag) {
-            Stage::Answered(put) => {
-                if put.client != client {
-                    return Err(PortError::NotYours);
-                }
-                Ok(put)
-            }
-            Stage::Free | Stage::Prepared(_) | Stage::Issued(_) | Stage::Accepted(_) => {
-                Err(PortError::NotAnswered)
-            }
-        }
+        self.bare.answered(client, tag)
     }
 }

@@ -75,7 +75,7 @@ impl Port {
         ensures err { OnErr result (self.new ≡ self.old) }
     {
         self.may_put(tag, request)?;
-        let request = request.copy(self.alloc)?;
+        let request = request.copy(self.bare.alloc())?;
         self.do_put(client, tag, request)
     }
 
@@ -171,60 +171,9 @@ impl Port {
     fn engine_steps(&self) -> ArrayVec<EngineStep, SLOT_COUNT>
         ensures { result.items ≡ ready_steps (λ step. is_none (refusal_on self.now step)) }
     {
-        let mut ready = ArrayVec::new();
-        self.add_issues(&mut ready);
-        self.add_accepts(&mut ready);
-        self.add_completes(&mut ready);
-        if self.has_failed().is_ok() {
-            ready.push(EngineStep::Recover);
-        }
-        ready
-    }
-
-    /// Adds the tags that may be issued.
-    fn add_issues(&self, ready: &mut ArrayVec<EngineStep, SLOT_COUNT>)
-        requires { length ready.old.items ≡ 0 }
-        ensures { ready.new.items ≡ ready.old.items
-            ++ those engine.Issue (λ t. is_none (refusal_on self.now (steps.Issue t))) slot_count }
-    {
-        for number in 0..SLOT_COUNT as u8 {
-            let tag = Tag::low_bits(number);
-            if self.prepared(tag).is_ok() {
-                ready.push(EngineStep::Issue { tag });
-            }
-        }
-    }
-
-    /// Adds the tags that the device may take.
-    fn add_accepts(&self, ready: &mut ArrayVec<EngineStep, SLOT_COUNT>)
-        requires { length ready.old.items
-            ≡ count_passing (λ t. is_none (refusal_on self.now (steps.Issue t))) slot_count }
-        ensures { ready.new.items ≡ ready.old.items
-            ++ those engine.Accept (λ t. is_none (refusal_on self.now (steps.Accept t)))
-            slot_count }
-    {
-        for number in 0..SLOT_COUNT as u8 {
-            let tag = Tag::low_bits(number);
-            if self.issued(tag).is_ok() {
-                ready.push(EngineStep::Accept { tag });
-            }
-        }
-    }
-
-    /// Adds the tags that the device may complete.
-    fn add_completes(&self, ready: &mut ArrayVec<EngineStep, SLOT_COUNT>)
-        requires { length ready.old.items
-            ≡ count_passing (λ t. is_none (refusal_on self.now (steps.Issue t))) slot_count
-            + count_passing (λ t. is_none (refusal_on self.now (steps.Accept t))) slot_count }
-        ensures { ready.new.items ≡ ready.old.items
-            ++ those engine.Complete (λ t. is_none (refusal_on self.now (steps.Complete t)))
-            slot_count }
-    {
-        for number in 0..SLOT_COUNT as u8 {
-            let tag = Tag::low_bits(number);
-            if self.accepted(tag).is_ok() {
-                ready.push(EngineStep::Complete { tag });
-            }
+        match self.room() {
+            Ok(()) => self.bare.ready(),
+            Err(_) => ArrayVec::new(),
         }
     }
 }

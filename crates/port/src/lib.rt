@@ -3,10 +3,16 @@
 #![tactic(auto)]
 
 mod acting;
+mod bare;
+mod bare_checks;
+mod bare_ready;
+mod bare_steps;
 mod built;
 mod checks;
 mod engine;
 mod host;
+mod live;
+mod live_steps;
 mod outcome;
 mod port;
 mod promises;
@@ -15,6 +21,7 @@ mod restarts;
 mod stages;
 
 pub use built::{Built, fits};
+pub use live::{LivePort, laws_of_lines};
 pub use outcome::Outcome;
 pub use port::Port;
 pub use port_history::{

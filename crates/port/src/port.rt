@@ -1,11 +1,10 @@
 //! A port, and what it shows.
 
-use crate::outcome::Outcome;
-use crate::stages::{Stages, no_outcomes};
+use crate::bare::BarePort;
 use audit::AuditLine;
 use audit::rules::Rule;
-use drive::{Accepted, Drive};
-use fis::{SLOT_COUNT, Tag};
+use drive::Drive;
+use fis::Tag;
 use hba_regs::PortRegs;
 use port_history::{Entries, PortError, Stage};
 use slots::PortMemory;
@@ -15,37 +14,22 @@ use std::marker::Model;
 /// A port, the drive behind it, and the history of its steps.
 #[derive(Drop)]
 pub struct Port {
-    pub(crate) alloc: Global,
-    pub(crate) drive: Drive,
-    pub(crate) slots: Stages,
-    pub(crate) outcomes: [Option<Outcome>; SLOT_COUNT],
-    /// The tag whose queued command failed, while the port is failed.
-    pub(crate) failed: Option<Tag>,
-    pub(crate) memory: PortMemory,
-    pub(crate) regs: PortRegs,
+    pub(crate) bare: BarePort,
     pub(crate) history: Entries,
     pub(crate) audit: Vec<AuditLine>,
-    pub(crate) rule: Option<Rule>,
-    /// The room of the drive's next answer: an answer is large, and so it is not moved.
-    pub(crate) answer: Accepted,
 }
 
 impl Model for Port {
-    ghost use Rattle.port.specs.State.{PortState};
+    ghost use Rattle.std.specs.Prelude.{◌≡◌, ◌≤◌, length};
+    ghost use Rattle.port_history.specs.Refusals.{most_steps};
+    ghost use Rattle.port.specs.State.{PortState, with_history};
 
     ghost Value = { PortState };
 
-    ghost view = { λ p. record {
-      drive = p.drive;
-      slots = p.slots;
-      outcomes = p.outcomes;
-      failed = p.failed;
-      memory = p.memory;
-      regs = p.regs;
-      history = p.history.items;
-      audit = p.audit.items;
-      rule = p.rule;
-    } };
+    ghost view = { λ p. with_history p.bare p.history.items p.audit.items };
+
+    ghost invariant = { λ p. (length p.history.items ≡ p.bare.count)
+        × (length p.history.items ≤ most_steps) };
 }
 
 impl Port {
@@ -83,17 +67,9 @@ impl Port {
         ensures { IfOk result (λ port. IsFresh port drive) }
     {
         Ok(Port {
-            alloc,
-            drive,
-            slots: Stages::new(),
-            outcomes: no_outcomes(),
-            failed: None,
-            memory: PortMemory::new(alloc)?,
-            regs: PortRegs::new(),
+            bare: BarePort::new(alloc, drive)?,
             history: Entries::new(alloc),
             audit: Vec::new(alloc),
-            rule: None,
-            answer: Accepted::none(alloc),
         })
     }
 
@@ -108,7 +84,7 @@ impl Port {
     pub fn drive(&self) -> &Drive
         ensures { result.now ≡ self.now.drive }
     {
-        &self.drive
+        self.bare.drive()
     }
 
     /// The denials so far, the oldest first.
@@ -124,7 +100,7 @@ impl Port {
         ensures told { (o : Origin) (list : List Step) → PortAgrees self.now o list
             → result ≡ accepted_rule (trace o list) }
     {
-        self.rule
+        self.bare.rule()
     }
 
     /// The registers. PxSACT has the queued tags that are issued or accepted, PxCI those that are issued, and the one
@@ -139,7 +115,7 @@ impl Port {
             → bit_at result.now.issued tag
             ≡ bit (is_issued (stage (trace o list) tag) || is_tag tag (failed (trace o list))) }
     {
-        &self.regs
+        self.bare.regs()
     }
 
     /// The memory that the host shares with the port. While a command is issued, its slot holds the FIS, the direction
@@ -151,13 +127,13 @@ impl Port {
             → stage (trace o list) tag ≡ Stage.Issued put
             → fetched result.now tag ≡ Ok (fetched_of put tag) }
     {
-        &self.memory
+        self.bare.memory()
     }
 
     /// The stage of a slot.
     pub fn stage(&self, tag: Tag) -> Stage
         ensures { result ≡ stage_at self.now.slots tag }
     {
-        self.slots.at(tag)
+        self.bare.stage(tag)
     }
 }

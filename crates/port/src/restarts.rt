@@ -1,12 +1,8 @@
 //! Recovery from a failed command, and resets.
 
 use crate::port::Port;
-use crate::registers::restart;
-use crate::stages::LogEntry;
-use crate::{host, registers};
 use drive::ResetKind;
-use fis::Tag;
-use port_history::{EngineStep, PortError, show_all};
+use port_history::{EngineStep, PortError};
 
 impl Port {
     ghost use Rattle.std.specs.Prelude.{◌≡◌, ◌+◌, ℕ, List, ◌∷◌, length, OnOk, OnErr, IfOk};
@@ -40,18 +36,9 @@ impl Port {
         ensures err { OnErr result (self.new ≡ self.old) }
     {
         self.has_failed()?;
-        let number = self.next_number();
+        let number = self.bare.next_number()?;
         self.history.reserve()?;
-        let Ok(answer) = self.drive.accept(&host::log_fis(), &[]) else {
-            return Err(PortError::OutOfMemory);
-        };
-        restart(&mut self.regs);
-        let fises = answer.fises();
-        show_all(&mut self.regs, Tag::low_bits(0), fises.as_slice());
-        host::receive(&mut self.memory, fises.as_slice());
-        let log = LogEntry::read(&answer.bytes);
-        self.slots.recover(&mut self.outcomes, &log);
-        self.failed = None;
+        self.bare.mend(number)?;
         self.history.push_engine(EngineStep::Recover);
         Ok(number)
     }
@@ -77,12 +64,9 @@ impl Port {
         ensures err { OnErr result (self.new ≡ self.old) }
     {
         self.may_reset()?;
-        let number = self.next_number();
+        let number = self.bare.next_number()?;
         self.history.reserve()?;
-        self.drive.reset(kind);
-        registers::reset(&mut self.regs);
-        self.slots.reset(&mut self.outcomes);
-        self.failed = None;
+        self.bare.reset_all(kind, number);
         self.history.push_reset(client, kind);
         Ok(number)
     }

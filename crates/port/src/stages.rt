@@ -11,12 +11,14 @@ ghost use Rattle.port.specs.State.{failed_then, named_in};
 use crate::outcome::{Outcome, outcome_after_reset, outcome_recovered};
 use fis::{SLOT_COUNT, Tag};
 use port_history::{Put, Stage, is_queued};
+use std::alloc::{AllocError, Global};
 use std::marker::Model;
 
 /// The stages of the slots, seen as their list.
 #[derive(Drop)]
 pub(crate) struct Stages {
-    stages: [Stage; SLOT_COUNT],
+    /// On the heap: so a port is small where it is moved.
+    stages: Box<[Stage; SLOT_COUNT]>,
     /// Whether it is known that none of them can keep back a queued command: then they are not looked through.
     all_queued: bool,
 }
@@ -29,10 +31,10 @@ impl Model for Stages {
 
     ghost Value = { List Stage };
 
-    ghost view = { λ s. s.stages };
+    ghost view = { λ s. s.stages.value };
 
     ghost invariant = { λ s. s.all_queued ≡ true
-        → (tag : ℕ) → tag < slot_count → may_keep_back (stage_at s.stages tag) ≡ false };
+        → (tag : ℕ) → tag < slot_count → may_keep_back (stage_at s.stages.value tag) ≡ false };
 }
 
 /// The slots of a port that did nothing.
@@ -119,7 +121,7 @@ fn are_all_queued(slots: &[Stage; SLOT_COUNT]) -> bool
 }
 
 impl Stages {
-    ghost use Rattle.std.specs.Prelude.{◌≡◌, ◌<◌, ℕ, length, slice_set, Some};
+    ghost use Rattle.std.specs.Prelude.{◌≡◌, ◌<◌, ℕ, length, slice_set, Some, IfOk};
     ghost use Rattle.fis.specs.Tags.{slot_count};
     ghost use Rattle.history.specs.Decisions.{any_below};
     ghost use Rattle.port_history.specs.Stages.{keeps_back, mixes_put, recovered, stage_after_reset, is_pending};
@@ -127,14 +129,19 @@ impl Stages {
     ghost use Rattle.port.specs.Answers.{stage_at, outcome_at, outcome_after_reset, outcome_recovered};
 
     /// The slots of a port that did nothing.
-    pub(crate) fn new() -> Stages
-        ensures stages { (tag : ℕ) → stage_at result tag ≡ Stage.Free }
-        ensures len { length result ≡ slot_count }
+    ///
+    /// # Errors
+    ///
+    /// `AllocError`.
+    pub(crate) fn new(alloc: Global) -> Result<Stages, AllocError>
+        ensures stages { IfOk result (λ s. (tag : ℕ) → stage_at s tag ≡ Stage.Free) }
+        ensures len { IfOk result (λ s. length s ≡ slot_count) }
     {
-        Stages {
-            stages: free_slots(),
+        let stages = Box::new(alloc, free_slots())?;
+        Ok(Stages {
+            stages,
             all_queued: true,
-        }
+        })
     }
 
     /// The stage of a slot.

@@ -18,7 +18,8 @@ unfolding those
 those_none step p zero none = refl
 those_none step p (suc n) none = rw (those_none step p n none, none n) refl
 
-none_ready : (may : Step → Bool) → ((step : EngineStep) → may (as_step step) ≡ false)
+-- Where no step may be done, none is ready.
+pub none_ready : (may : Step → Bool) → ((step : EngineStep) → may (as_step step) ≡ false)
     → ready_steps may ≡ []
 none_ready may none =
     rw (

@@ -16,10 +16,10 @@ use Rattle.port_history.specs.declared.step.Step.TheVariants as steps
 use Rattle.port_history.specs.Requests.{no_bytes}
 use Rattle.port_history.specs.Stages.{is_queued_command, put_at, to, accepted_stage, recovered, stage_after_reset, is_answered, is_put_by}
 use Rattle.port_history.specs.Steps.{trace, stage, failed, is_tag, answer}
-use Rattle.port_history.specs.Refusals.{first_refusal, most_steps}
+use Rattle.port_history.specs.Refusals.{first_refusal, most_steps, refusal}
 use Rattle.port_history.specs.Laws.{owner, TakeLaw, OwnLaw}
 use Rattle.port_history.proofs.AnswerProofs.{answer_law}
-use Rattle.port_history.proofs.Tests.{some_is, was_true, none_holds, tests_of}
+use Rattle.port_history.proofs.Tests.{some_is, was_true, none_holds, tests_of, with_room}
 
 -- The client of a stage's Put.
 abbrev client_in : Stage → Option ℕ
@@ -147,10 +147,10 @@ is_below n m h = grind (arith, nat_tests)
 
 pub own_law : OwnLaw
 own_law o client tag before lawful within room owns answered =
-    let ms = trace o before in (
-      is_below tag slot_count within,
-      unrefused (nat_lt (length ms) most_steps) (is_answered (stage ms tag))
-          (is_put_by client (put_at (stage ms tag))) (is_below (length ms) most_steps room) answered
-          (client_put_by client (stage ms tag) (owner_is o before tag ∙ owns)),
-      lawful,
-    )
+    let ms = trace o before in
+    let step = steps.Take client tag in
+    let goes : refusal ms step ≡ None =
+    unrefused (nat_lt (length ms) most_steps) (is_answered (stage ms tag))
+    (is_put_by client (put_at (stage ms tag))) (is_below (length ms) most_steps room) answered
+    (client_put_by client (stage ms tag) (owner_is o before tag ∙ owns)) in
+    (goes, (is_below tag slot_count within, with_room ms step goes, lawful))

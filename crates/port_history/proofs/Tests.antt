@@ -10,7 +10,8 @@ use Rattle.port_history.specs.declared.stages.Stage.TheVariants.{Free, Prepared,
 use Rattle.port_history.specs.declared.step.Step.{Step}
 use Rattle.port_history.specs.Stages.{is_free, is_prepared, is_issued, is_accepted, is_answered}
 use Rattle.port_history.specs.Steps.{Moment, stage, failed}
-use Rattle.port_history.specs.Refusals.{first_refusal, tests, most_steps}
+use Rattle.port_history.specs.declared.step.Step.TheVariants as steps
+use Rattle.port_history.specs.Refusals.{first_refusal, tests, most_steps, refusal, refusal_by, refusal_with_room}
 
 -- one that passes is enough
 pub any_below_at : (p : ℕ → Bool) (n k : ℕ) → p k ≡ true → k < n → any_below p n ≡ true
@@ -76,10 +77,24 @@ none_holds (test ∷ tests) e =
     let p = passes test.0 test.1 (first_refusal tests) e in
     (p.0, none_holds tests p.1)
 
--- What is tested of a step after these moments.
+-- What is tested of a step after these moments, where there is room for it.
 abbrev pub tests_of : List Moment → Step → List (Bool × PortError)
-tests_of ms step =
-    tests (not (nat_lt (length ms) most_steps)) (is_some (failed ms)) (stage ms) step
+tests_of ms step = tests false (is_some (failed ms)) (stage ms) step
+
+-- A step that is not refused is none where there is room.
+room_of : (full failure : Bool) (stages : ℕ → Stage) (step : Step) → refusal_by full failure stages step ≡ None
+    → refusal_by false failure stages step ≡ None
+room_of false failure stages step e = e
+room_of true failure stages (steps.Put client tag request) e = absurd cc
+room_of true failure stages (steps.Issue tag) e = absurd cc
+room_of true failure stages (steps.Accept tag) e = absurd cc
+room_of true failure stages (steps.Complete tag) e = absurd cc
+room_of true failure stages steps.Recover e = absurd cc
+room_of true failure stages (steps.Reset client kind) e = absurd cc
+room_of true failure stages (steps.Take client tag) e = absurd cc
+
+pub with_room : (ms : List Moment) (step : Step) → refusal ms step ≡ None → refusal_with_room ms step ≡ None
+with_room ms step e = room_of (not (nat_lt (length ms) most_steps)) (is_some (failed ms)) (stage ms) step e
 
 -- stages, by their tests
 pub free_is : (s : Stage) → not (is_free s) ≡ false → s ≡ Free

@@ -23,7 +23,7 @@ use Rattle.history.specs.Tcg.{command_read}
 use Rattle.port_history.specs.declared.request.Answer.{Answer}
 use Rattle.port_history.specs.declared.step.Step.{Step}
 use Rattle.port_history.specs.declared.step.Step.TheVariants as steps
-use Rattle.port_history.specs.Refusals.{AreLawful, IsLawful, most_steps}
+use Rattle.port_history.specs.Refusals.{AreLawful, IsLawful, most_steps, refusal}
 use Rattle.port_history.specs.Ready.{engine_ready}
 use Rattle.port_history.specs.Registers.{registers}
 use Rattle.port_history.specs.Requests.{log_fis, blocks_moved}
@@ -150,7 +150,8 @@ OwnLaw =
     (o : Origin) (client tag : ℕ) (before : List Step) → IsLawful o before → tag < slot_count
     → length (trace o before) < most_steps → owner before tag ≡ Some client
     → is_answered (stage (trace o before) tag) ≡ true
-    → IsLawful o (steps.Take client tag ∷ before)
+    → (refusal (trace o before) (steps.Take client tag) ≡ None)
+    × IsLawful o (steps.Take client tag ∷ before)
 
 -- The acts bring as many bytes as their commands want.
 abbrev pub FedLaw : Type 0

@@ -6,7 +6,7 @@ use Rattle.port_history.specs.declared.step.EngineStep.{EngineStep}
 use Rattle.port_history.specs.declared.step.EngineStep.TheVariants as engine
 use Rattle.port_history.specs.declared.step.Step.{Step}
 use Rattle.port_history.specs.declared.step.Step.TheVariants as steps
-use Rattle.port_history.specs.Refusals.{refusal}
+use Rattle.port_history.specs.Refusals.{refusal, refusal_with_room}
 use Rattle.port_history.specs.Steps.{trace}
 
 -- The steps of the tags below n that pass, rising.
@@ -25,6 +25,10 @@ ready_steps may =
 -- The lawful steps of the engine, after a list of steps.
 abbrev pub engine_ready : Origin → List Step → List EngineStep
 engine_ready o list = ready_steps (λ step. is_none (refusal (trace o list) step))
+
+-- The same where the history has room for any number of steps.
+abbrev pub engine_may : Origin → List Step → List EngineStep
+engine_may o list = ready_steps (λ step. is_none (refusal_with_room (trace o list) step))
 
 -- The one at a choice, modulo their number; none where there is none.
 abbrev pub chosen : ℕ → List EngineStep → Option EngineStep

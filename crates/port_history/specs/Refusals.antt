@@ -1,6 +1,6 @@
 -- Which steps are lawful. The order of the refusals stands here once, over facts that the past
 -- says, or a port keeps.
-use Rattle.std.specs.Prelude.{◌≡◌, ◌⊎◌, ℕ, Bool, true, not, nat_lt, List, [], ◌∷◌, length, is_some, Option, Some, None, Result, Ok, Err, if◌then◌else◌}
+use Rattle.std.specs.Prelude.{◌≡◌, ◌⊎◌, ℕ, Bool, true, false, not, nat_lt, List, [], ◌∷◌, length, is_some, Option, Some, None, Result, Ok, Err, if◌then◌else◌}
 use Rattle.fis.specs.Tags.{slot_count}
 use Rattle.history.specs.Items.{Items}
 use Rattle.history.specs.Opening.{Origin}
@@ -63,6 +63,10 @@ abbrev pub refusal : List Moment → Step → Option PortError
 refusal before step = refusal_by (not (nat_lt (length before) most_steps)) (is_some (failed before))
     (stage before) step
 
+-- The same where there is room for a step: of a port that keeps no history, and so is never full.
+abbrev pub refusal_with_room : List Moment → Step → Option PortError
+refusal_with_room before step = refusal_by false (is_some (failed before)) (stage before) step
+
 -- The slots are those that tags number.
 abbrev pub has_slot : Step → Bool
 has_slot (steps.Put client tag request) = nat_lt tag slot_count
@@ -73,11 +77,11 @@ has_slot steps.Recover = true
 has_slot (steps.Reset client kind) = true
 has_slot (steps.Take client tag) = nat_lt tag slot_count
 
--- Each step was lawful where it stands, whatever its items do.
+-- Each step was lawful where it stands, whatever its items do. How many steps there are is no matter of this.
 abbrev pub AreLawful : Items → Origin → List Step → Type 0
 AreLawful items o [] = Unit {0}
 AreLawful items o (step ∷ before) = (has_slot step ≡ true)
-    × (refusal (trace_of items o before) step ≡ None)
+    × (refusal_with_room (trace_of items o before) step ≡ None)
     × AreLawful items o before
 
 -- By the items of this drive.

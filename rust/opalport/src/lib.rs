@@ -115,7 +115,7 @@ pub enum Error {
     PortNotYours,
     /// A transfer has no size that the port takes.
     PortSize,
-    /// The history of the port is full.
+    /// The history of the port is full. No port keeps one any more, and so none is refused so.
     PortHistoryFull,
     /// A code that this crate does not know.
     Unknown(u32),

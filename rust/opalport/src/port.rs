@@ -107,7 +107,7 @@ pub struct Shown {
     pub active: u32,
     /// PxCI.
     pub issued: u32,
-    /// How many lines the audit log has.
+    /// How many denials there were: so many lines the audit log has.
     pub denials: usize,
 }
 
@@ -219,7 +219,8 @@ impl Port {
         Ok(Shown { interrupts, task, active, issued, denials })
     }
 
-    /// The line of the audit log at a place, as `6 1 deny read 100+1 range 1 ReadLocked`; empty where it has none there.
+    /// The line of the audit log at a place, 0 the oldest, as `6 1 deny read 100+1 range 1 ReadLocked`; empty where it is none of
+    /// the 64 latest.
     pub fn denial(&mut self, place: usize) -> Result<String, Error> {
         // SAFETY: as in `issue`, and the buffer is there for the call.
         written(200, |into, room| unsafe { raw::opal_raw_port_denial(&mut self.object.handle, place, into, room) }).map(text)

@@ -23,7 +23,7 @@ use Rattle.port_history.specs.declared.step.Step.{Step}
 use Rattle.port_history.specs.declared.step.Step.TheVariants.{Take}
 use Rattle.port_history.specs.Laws.{IsForPorts, NeverMixes, IsUnmixed, IsRecovery, FailureLaw, RegisterLaw, AnswerLaw, TakeLaw, OwnLaw, FedLaw, FullLaw, owner}
 use Rattle.port_history.specs.Ready.{engine_ready}
-use Rattle.port_history.specs.Refusals.{AreLawful, IsLawful}
+use Rattle.port_history.specs.Refusals.{AreLawful, IsLawful, refusal}
 use Rattle.port_history.specs.Registers.{registers}
 use Rattle.port_history.specs.Stages.{is_answered, is_queued_command}
 use Rattle.port_history.specs.Steps.{trace_of, trace, events, acts, stage, failed, answer, act_of, reply}
@@ -118,7 +118,8 @@ nothing_to_take law o client tag lawful = no_owner (law o client tag [] lawful).
 -- `own`: where the history has room, the owner of an answer takes it.
 owner_takes : OwnLaw → (o : Origin) (client tag : ℕ) (before : List Step) → IsLawful o before
     → tag < 32 → length (trace o before) < 1048576 → owner before tag ≡ Some client
-    → is_answered (stage (trace o before) tag) ≡ true → IsLawful o (Take client tag ∷ before)
+    → is_answered (stage (trace o before) tag) ≡ true
+    → (refusal (trace o before) (Take client tag) ≡ None) × IsLawful o (Take client tag ∷ before)
 owner_takes law o client tag before lawful slot room owns answered =
     law o client tag before lawful slot room owns answered
 

@@ -8,7 +8,7 @@ use Rattle.fis.specs.Tags.{slot_count}
 use Rattle.headline.specs.Transfers.{IsServedAnswer}
 use Rattle.history.specs.Opening.{Origin}
 use Rattle.history.specs.Tcg.{tcg}
-use Rattle.port.specs.Agreement.{PortAgrees, MakesStep, NumbersStep, RefusesStep}
+use Rattle.port.specs.Live.{LiveAgrees, MakesStep, NumbersStep, RefusesStep}
 use Rattle.port_history.specs.declared.error.PortError.{PortError}
 use Rattle.port_history.specs.declared.request.Answer.{Answer}
 use Rattle.port_history.specs.declared.request.Request.{Request}
@@ -55,19 +55,19 @@ put old new client given tag wanted request count outcome low e is told agrees n
 
 pub taken : (old new : PortDesk) (client given tag : ℕ) (told : Taken) (number : ℕ) (answered : Answer) → nat_lt tag slot_count ≡ true → given ≡ tag
     → told ≡ told_take (Ok (number, answered))
-    → ((o : Origin) (list : List Step) → PortAgrees old.port o list → PortAgrees new.port o (steps.Take client given ∷ list))
-    → ((o : Origin) (list : List Step) → PortAgrees old.port o list
+    → ((o : Origin) (list : List Step) → LiveAgrees old.port o list → LiveAgrees new.port o (steps.Take client given ∷ list))
+    → ((o : Origin) (list : List Step) → LiveAgrees old.port o list
     → (number ≡ 1 + length (trace o list)) × (answered ≡ unwrap_or (answer (trace o list) given) no_bytes))
-    → ((o : Origin) (list : List Step) → PortAgrees old.port o list → IsServedAnswer tcg o list given answered)
+    → ((o : Origin) (list : List Step) → LiveAgrees old.port o list → IsServedAnswer tcg o list given answered)
     → RefusesStep {A = ℕ × Answer} old.port (steps.Take client given) (Ok (number, answered))
     → new.last ≡ answered → TakesUnder old new client tag told
 taken old new client given tag told number answered low e is agrees gives served refused last = on_tag _ _ _ low (record {
   outcome = Ok (number, answered);
   told = is;
   agrees = subst (λ (t : ℕ). MakesStep {A = ℕ × Answer} {E = PortError} old.port new.port (steps.Take client t) (Ok (number, answered))) e agrees;
-  answer = subst (λ (t : ℕ). (o : Origin) (list : List Step) → PortAgrees old.port o list
+  answer = subst (λ (t : ℕ). (o : Origin) (list : List Step) → LiveAgrees old.port o list
       → (number ≡ 1 + length (trace o list)) × (answered ≡ unwrap_or (answer (trace o list) t) no_bytes)) e gives;
-  served = subst (λ (t : ℕ). (o : Origin) (list : List Step) → PortAgrees old.port o list → IsServedAnswer tcg o list t answered) e served;
+  served = subst (λ (t : ℕ). (o : Origin) (list : List Step) → LiveAgrees old.port o list → IsServedAnswer tcg o list t answered) e served;
   kept = last;
   refused = subst (λ (t : ℕ). RefusesStep {A = ℕ × Answer} old.port (steps.Take client t) (Ok (number, answered))) e refused;
   err = tt;

@@ -12,13 +12,13 @@ use crate::port_calls::taken::Taken;
 use audit::line_bytes;
 use drive::ResetKind;
 use fis::Tag;
-use port::{Answer, Port};
+use port::{Answer, LivePort};
 use std::alloc::Global;
 
 /// A port that a caller from outside works on, with what was taken of it last.
 #[derive(Drop)]
 pub struct PortDesk {
-    pub port: Port,
+    pub port: LivePort,
     /// What the last Take gave.
     pub last: Answer,
 }
@@ -35,10 +35,10 @@ fn kind_asked(number: u32) -> Option<ResetKind>
 }
 
 impl PortDesk {
-    ghost use Rattle.std.specs.Prelude.{◌≡◌, ℕ, List, slice_get};
+    ghost use Rattle.std.specs.Prelude.{◌≡◌, ℕ, List};
     ghost use Rattle.library_calls.specs.Copies.{IsCopied, IsWrittenOut};
     ghost use Rattle.history.specs.Opening.{Origin};
-    ghost use Rattle.port.specs.Agreement.{PortAgrees};
+    ghost use Rattle.port.specs.Live.{line_kept};
     ghost use Rattle.port_history.specs.declared.step.Step.{Step};
     ghost use Rattle.port_history.specs.declared.step.Step.TheVariants as steps;
     ghost use Rattle.port_history.specs.Requests.{no_bytes};
@@ -47,7 +47,7 @@ impl PortDesk {
     ghost use Rattle.library_calls.specs.PortCallsTold.{answer_bytes};
 
     /// A port of which nothing was taken yet.
-    pub fn new(port: Port) -> PortDesk
+    pub fn new(port: LivePort) -> PortDesk
         ensures port { result.port ≡ port }
         ensures last { result.last ≡ no_bytes }
     {
@@ -72,7 +72,7 @@ impl PortDesk {
             return Count::refused(CallError::Tag);
         };
         match request_asked(alloc, asked, payload) {
-            Ok(request) => told(self.port.put(client, tag, request)),
+            Ok(request) => told(self.port.put(client, tag, &request)),
             Err(error) => Count::refused(error),
         }
     }
@@ -172,12 +172,13 @@ impl PortDesk {
         Shown::of(&self.port)
     }
 
-    /// Copies the line of the audit log at a place, 0 the oldest, into a buffer: no bytes where it has none there.
+    /// Copies the line of the audit log at a place, 0 the oldest, into a buffer, if it is one of the 64 latest: else no
+    /// bytes.
     pub fn copy_logged(&self, alloc: Global, place: usize, into: &mut [u8]) -> Count
-        ensures { IsWrittenOut (logged_text (slice_get self.now.port.audit place))
+        ensures { IsWrittenOut (logged_text (line_kept self.now.port place))
             into.old into.new result }
     {
-        match self.port.audit().get(place) {
+        match self.port.denial(place as u64) {
             Some(line) => copy_text(line_bytes(alloc, line), into),
             None => copy_out(&[], into),
         }

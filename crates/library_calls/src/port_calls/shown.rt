@@ -4,9 +4,9 @@ ghost use Rattle.std.specs.Prelude.{◌≡◌};
 ghost use Rattle.library_calls.specs.Shown.{shown_word, refused_shown, shown_numbers};
 
 use crate::byte_calls::{CallError, DONE};
-use port::Port;
+use port::LivePort;
 
-/// What a port shows: words of its registers (AHCI 1.3.1, 3.3), and how many lines its audit log has.
+/// What a port shows: words of its registers (AHCI 1.3.1, 3.3), and how many denials there were.
 #[repr(C)]
 #[derive(Clone, Copy, Debug, PartialEq, Eq)]
 pub struct Shown {
@@ -20,12 +20,12 @@ pub struct Shown {
     pub active: u32,
     /// PxCI: the tags of issued commands.
     pub issued: u32,
-    /// How many lines the audit log has.
+    /// How many denials there were: so many lines its audit log has.
     pub denials: usize,
 }
 
 /// The word at an offset in the block of a port.
-fn word(port: &Port, offset: u32) -> u32
+fn word(port: &LivePort, offset: u32) -> u32
     ensures { result ≡ shown_word port.now offset }
 {
     port.regs().read(offset).unwrap_or(0)
@@ -47,7 +47,7 @@ impl Shown {
     }
 
     /// What a port shows.
-    pub(crate) fn of(port: &Port) -> Shown
+    pub(crate) fn of(port: &LivePort) -> Shown
         ensures { result ≡ shown_numbers port.now }
     {
         Shown {
@@ -56,7 +56,7 @@ impl Shown {
             task: word(port, 0x20),
             active: word(port, 0x34),
             issued: word(port, 0x38),
-            denials: port.audit().len(),
+            denials: port.denials() as usize,
         }
     }
 }

@@ -2,11 +2,11 @@ use Rattle.std.proofs.Common.{◌≡◌, ℕ, ◌++◌, true, List, [], ◌∷�
 use Rattle.port_history.specs.declared.step.EngineStep.{EngineStep}
 use Rattle.port_history.specs.declared.step.EngineStep.TheVariants as engine
 use Rattle.port_history.specs.declared.step.Step.TheVariants as steps
-use Rattle.port.specs.State.{refusal_on}
+use Rattle.port.specs.State.{refusal_on_bare}
 use Rattle.port.proofs.Calls.{told_is}
 use Rattle.port.proofs.Readies.{allows, those_none, longer, as_long, not_counted, sum_small, count_of_list}
-use Rattle.port.proofs.port.Port.add_completes.Goals.{then-is_ok, else-is_ok}
-use Rattle.port.proofs.port.Port.add_completes.Goals as goal
+use Rattle.port.proofs.bare.BarePort.add_completes.Goals.{then-is_ok, else-is_ok}
+use Rattle.port.proofs.bare.BarePort.add_completes.Goals as goal
 
 pub loop-number-init : goal.loop-number-init
 loop-number-init c = sym (ap (λ (xs : List EngineStep). c.args.ready.now.items ++ xs) (those_none engine.Complete (allows c.args.self.now steps.Complete)) ∙ append-nil c.args.ready.now.items)
@@ -16,7 +16,7 @@ push-requires c =
     let port = c.args.self.now in
     let n = c.loop-number.number in
     let here : c.low_bits-tag.result ≡ n = omega (arith, c.low_bits-tag.ensures, c.loop-number-test.true) in
-    let passes : allows port steps.Complete n ≡ true = ap (allows port steps.Complete) (sym here) ∙ sym (told_is c.accepted.result (refusal_on port (steps.Complete c.low_bits-tag.result)) c.accepted.ensures.order) ∙ sym c.is_ok.ensures.value ∙ c.if-is_ok.true in
+    let passes : allows port steps.Complete n ≡ true = ap (allows port steps.Complete) (sym here) ∙ sym (told_is c.accepted.result (refusal_on_bare port (steps.Complete c.low_bits-tag.result)) c.accepted.ensures.order) ∙ sym c.is_ok.ensures.value ∙ c.if-is_ok.true in
     (omega arith, omega (arith, c.requires, count_of_list c.args.ready.now.items c.loop-number.ready.items engine.Complete (allows port steps.Complete) n c.loop-number.invariant, not_counted (allows port steps.Complete) 32 n c.loop-number-test.true passes, sum_small port))
 
 pub loop-number-preserved : goal.loop-number-preserved
@@ -24,7 +24,7 @@ loop-number-preserved c =
     let port = c.args.self.now in
     let n = c.loop-number.number in
     let here : c.low_bits-tag.result ≡ n = omega (arith, c.low_bits-tag.ensures, c.loop-number-test.true) in
-    let told : c.is_ok.result ≡ allows port steps.Complete n = c.is_ok.ensures.value ∙ told_is c.accepted.result (refusal_on port (steps.Complete c.low_bits-tag.result)) c.accepted.ensures.order ∙ ap (allows port steps.Complete) here in
+    let told : c.is_ok.result ≡ allows port steps.Complete n = c.is_ok.ensures.value ∙ told_is c.accepted.result (refusal_on_bare port (steps.Complete c.low_bits-tag.result)) c.accepted.ensures.order ∙ ap (allows port steps.Complete) here in
     elim c.if-is_ok.branch [
       | then-is_ok w ↦ longer c.args.ready.now.items c.loop-number.ready.items c.if-is_ok.ready.items engine.Complete (allows port steps.Complete) n c.loop-number.invariant (sym told ∙ w.if-is_ok.true) (rw w.ready-is (w.push.ensures.items ∙ ap (λ (t : ℕ). c.loop-number.ready.items ++ engine.Complete t ∷ []) here))
       | else-is_ok w ↦ rw w.ready-is (as_long c.args.ready.now.items c.loop-number.ready.items engine.Complete (allows port steps.Complete) n c.loop-number.invariant (sym told ∙ w.if-is_ok.false))
