@@ -1,7 +1,7 @@
 -- The acts of a line, and what they denied.
-use Rattle.std.proofs.Common.{◌≡◌, ◌∙◌, ℕ, ◌-◌, Bool, true, false, List, [], ◌∷◌, ◌++◌, take, map, length, refl, sym, ap, subst, append_assoc, codes, inl, inr, arith, Option, Some, None}
+use Rattle.std.proofs.Common.{◌≡◌, ◌∙◌, ℕ, ◌-◌, Bool, true, false, List, [], ◌∷◌, ◌++◌, take, map, length, refl, sym, ap, subst, arith, Option, Some, None}
 use Rattle.audit.specs.declared.rules.rule.Rule.{Rule}
-use Rattle.std.specs.Prelude.{◌⊎◌, suc, is_some, ◌||◌, if◌then◌else◌}
+use Rattle.std.specs.Prelude.{suc, is_some, ◌||◌, if◌then◌else◌}
 use Rattle.audit.specs.declared.reason.Why.{Why}
 use Rattle.trusted_cmds.specs.declared.command.Command.{Command}
 use Rattle.trusted_cmds.specs.declared.command.Command.TheVariants.{WriteQueued}
@@ -9,25 +9,15 @@ use Rattle.history.specs.Opening.{Origin}
 use Rattle.history.specs.Events.{Event, HeldCommand}
 use Rattle.history.specs.Decisions.{completed, completed_by}
 use Rattle.history.specs.History.{Act, Accept, Complete, Reset, log, event}
-use Rattle.history.specs.Readers.{in_force, held}
+use Rattle.sp_cells.specs.declared.names.Sp.{Sp}
+use Rattle.history.specs.Readers.{in_force, held, session_on}
 use Rattle.reasons.specs.declared.explained.onset.Source.{Source}
-use Rattle.reasons.specs.Remedies.{remedy_text}
-use Rattle.reasons.specs.Conditions.{conditions_in}
-use Rattle.reasons.specs.Onsets.{Sourced, bare_acts, held_since, holds_after}
-use Rattle.reasons.specs.Reasons.{reasons_text}
-use Rattle.audit.specs.Words.{rule_words}
+use Rattle.reasons.specs.declared.explained.onset.Counted.TheVariants.{Acts}
+use Rattle.reasons.specs.Onsets.{Sourced, from_source, bare_acts}
 use Rattle.fis.specs.H2d.{h2d_at}
 use Rattle.fis.specs.declared.h2d.RegH2d.{RegH2d}
-use Rattle.sp_cells.specs.Flat.{LookUp}
-use Rattle.sp_cells.specs.Names.{tper_info}
-use Rattle.sp_cells.specs.declared.names.Sp.TheVariants.{Admin}
-use Rattle.sp_cells.specs.ColumnNames.{programmatic_reset_enable_column}
-use Rattle.basics.specs.declared.profile.Profile.{Profile}
-use Rattle.reasons.specs.Remedies.{set_text}
-use Rattle.reasons.specs.Rulings.{because_text, no_reset_words, list_words, discovery_words, long_words, matter_at, matter_text, command_carried}
-use Rattle.reasons.specs.declared.rulings.Matter.{Matter}
-use Rattle.reasons.specs.declared.rulings.Matter.TheVariants.{Reset as ResetMatter, OtherThanList, SendToDiscovery, LongResponse, Plain}
-use Rattle.drive_scripts.specs.Explanations.{added, from_source, attributed, no_objection, objection_of, objection_in, command_done, sp_asked, open_text, denial_text, objection_text, told_reasons, once_served}
+use Rattle.reasons.specs.Rulings.{command_carried}
+use Rattle.drive_scripts.specs.Explanations.{added, attributed, no_objection, objection_of, objection_in, command_done, payload_done, denial_text, objection_text, told_reasons, once_served}
 
 -- the first items of a list, by how many stand behind them
 
@@ -40,24 +30,20 @@ take_one n m x xs e = let one : suc n - m ≡ 1 = omega arith in ap (λ k. take 
 take_two : {A : Type 0} (n m : ℕ) (x y : A) (xs : List A) → n ≡ m → take (suc (suc n) - m) (x ∷ y ∷ xs) ≡ x ∷ y ∷ []
 take_two n m x y xs e = let two : suc (suc n) - m ≡ 2 = omega arith in ap (λ k. take k (x ∷ y ∷ xs)) two
 
-as_many : (past : List Sourced) → length (bare_acts past) ≡ length past
-as_many [] = refl
-as_many (s ∷ past) = ap suc (as_many past)
-
 -- the acts of a line, with their source
 
 pub attributed_none : (source : Source) (past : List Sourced) → attributed source (bare_acts past) past ≡ past
 attributed_none source past =
-    ap (λ acts. map (from_source source) acts ++ past) (take_none (length (bare_acts past)) (length past) (bare_acts past) (as_many past))
+    ap (λ acts. map (from_source source) acts ++ past) (take_none (length (bare_acts past)) (length (bare_acts past)) (bare_acts past) refl)
 
 pub attributed_one : (source : Source) (act : Act) (past : List Sourced) → attributed source (act ∷ bare_acts past) past ≡ from_source source act ∷ past
 attributed_one source act past =
-    ap (λ acts. map (from_source source) acts ++ past) (take_one (length (bare_acts past)) (length past) act (bare_acts past) (as_many past))
+    ap (λ acts. map (from_source source) acts ++ past) (take_one (length (bare_acts past)) (length (bare_acts past)) act (bare_acts past) refl)
 
 pub attributed_two : (source : Source) (act earlier : Act) (past : List Sourced)
     → attributed source (act ∷ earlier ∷ bare_acts past) past ≡ from_source source act ∷ from_source source earlier ∷ past
 attributed_two source act earlier past =
-    ap (λ acts. map (from_source source) acts ++ past) (take_two (length (bare_acts past)) (length past) act earlier (bare_acts past) (as_many past))
+    ap (λ acts. map (from_source source) acts ++ past) (take_two (length (bare_acts past)) (length (bare_acts past)) act earlier (bare_acts past) refl)
 
 -- and without it they are as they were
 pub bare_none : (source : Source) (past : List Sourced) → bare_acts (attributed source (bare_acts past) past) ≡ bare_acts past
@@ -92,6 +78,20 @@ pub rows_stay : (o : Origin) (tag : ℕ) (bytes : List ℕ) (acts : List Act)
     → in_force o (log o (Complete tag bytes ∷ acts)) ≡ in_force o (log o acts)
 rows_stay o tag bytes acts = by_held o (log o acts) tag bytes (held (log o acts) tag)
 
+live_command : (past : List Event) (tag : ℕ) (bytes : List ℕ) (command : Command) (sp : Sp)
+    → session_on (completed_by tag bytes command ∷ past) sp ≡ session_on past sp
+live_command past tag bytes (WriteQueued lba count) sp = refl
+live_command past tag bytes _ sp = refl
+
+live_held : (past : List Event) (tag : ℕ) (bytes : List ℕ) (h : Option HeldCommand) (sp : Sp)
+    → session_on (completed tag bytes h ∷ past) sp ≡ session_on past sp
+live_held past tag bytes None sp = refl
+live_held past tag bytes (Some h) sp = live_command past tag bytes h.command sp
+
+pub sessions_stay : (o : Origin) (tag : ℕ) (bytes : List ℕ) (acts : List Act) (sp : Sp)
+    → session_on (log o (Complete tag bytes ∷ acts)) sp ≡ session_on (log o acts) sp
+sessions_stay o tag bytes acts sp = live_held (log o acts) tag bytes (held (log o acts) tag) sp
+
 silent_command : (events : List Event) (tag : ℕ) (bytes : List ℕ) (command : Command)
     → objection_in (completed_by tag bytes command ∷ events) ≡ objection_in events
 silent_command events tag bytes (WriteQueued lba count) = refl
@@ -120,12 +120,12 @@ objection_served : (o : Origin) (held : Bool) (fis payload : List ℕ) (tag : �
 objection_served o true fis payload tag bytes past =
     let earlier = Accept fis payload ∷ bare_acts past in
     let made = event o (log o (bare_acts past)) (Accept fis payload) in
-    ap objection_in (take_two (length (bare_acts past)) (length past) (event o (log o earlier) (Complete tag bytes)) made (log o (bare_acts past)) (as_many past))
+    ap objection_in (take_two (length (bare_acts past)) (length (bare_acts past)) (event o (log o earlier) (Complete tag bytes)) made (log o (bare_acts past)) refl)
     ∙ silent (made ∷ []) tag bytes (held (log o earlier) tag)
     ∙ told_or made.denied made.rule
 objection_served o false fis payload tag bytes past =
     let made = event o (log o (bare_acts past)) (Accept fis payload) in
-    ap objection_in (take_one (length (bare_acts past)) (length past) made (log o (bare_acts past)) (as_many past))
+    ap objection_in (take_one (length (bare_acts past)) (length (bare_acts past)) made (log o (bare_acts past)) refl)
     ∙ told_or made.denied made.rule
 
 -- and its command that of the FIS
@@ -134,17 +134,24 @@ command_served : (held : Bool) (fis payload : List ℕ) (tag : ℕ) (bytes : Lis
 command_served true fis payload tag bytes acts = refl
 command_served false fis payload tag bytes acts = refl
 
+payload_served : (held : Bool) (fis payload : List ℕ) (tag : ℕ) (bytes : List ℕ) (acts : List Act)
+    → payload_done (once_served held fis payload tag bytes acts) ≡ payload
+payload_served true fis payload tag bytes acts = refl
+payload_served false fis payload tag bytes acts = refl
+
 pub reasons_of_command : (o : Origin) (held : Bool) (fis payload : List ℕ) (tag : ℕ) (bytes : List ℕ) (past : List Sourced) (acts : List Act) (h : RegH2d) (denied : Option Why) (rule : Option Rule)
     → h2d_at fis ≡ h
     → acts ≡ once_served held fis payload tag bytes (bare_acts past)
     → denied ≡ (event o (log o (bare_acts past)) (Accept fis payload)).denied
     → rule ≡ (event o (log o (bare_acts past)) (Accept fis payload)).rule
-    → denial_text o past acts (command_carried h) denied rule ≡ told_reasons o past acts
+    → denial_text Acts o past acts (command_carried h) payload denied rule ≡ told_reasons o past acts
 reasons_of_command o held fis payload tag bytes past acts h denied rule read is told ruled =
-    ap (λ (command : Option Command). denial_text o past acts command denied rule)
+    ap (λ (command : Option Command). denial_text Acts o past acts command payload denied rule)
     (sym (ap command_carried read) ∙ sym (command_served held fis payload tag bytes (bare_acts past)) ∙ sym (ap command_done is))
-    ∙ ap (λ denied. denial_text o past acts (command_done acts) denied rule) told
-    ∙ ap (λ rule. denial_text o past acts (command_done acts) (event o (log o (bare_acts past)) (Accept fis payload)).denied rule) ruled
+    ∙ ap (λ (sent : List ℕ). denial_text Acts o past acts (command_done acts) sent denied rule)
+    (sym (payload_served held fis payload tag bytes (bare_acts past)) ∙ sym (ap payload_done is))
+    ∙ ap (λ denied. denial_text Acts o past acts (command_done acts) (payload_done acts) denied rule) told
+    ∙ ap (λ rule. denial_text Acts o past acts (command_done acts) (payload_done acts) (event o (log o (bare_acts past)) (Accept fis payload)).denied rule) ruled
     ∙ ap (objection_text o past acts)
     (sym (objection_served o held fis payload tag bytes past) ∙ sym (ap (λ acts. objection_in (take (added acts past) (log o acts))) is))
 
@@ -152,36 +159,9 @@ reasons_of_command o held fis payload tag bytes past acts h denied rule read is 
 
 pub reasons_of_none : (o : Origin) (past : List Sourced) → told_reasons o past (bare_acts past) ≡ []
 reasons_of_none o past =
-    ap (λ events. objection_text o past (bare_acts past) (objection_in events)) (take_none (length (bare_acts past)) (length past) (log o (bare_acts past)) (as_many past))
+    ap (λ events. objection_text o past (bare_acts past) (objection_in events)) (take_none (length (bare_acts past)) (length (bare_acts past)) (log o (bare_acts past)) refl)
 
 pub reasons_of_reset : (o : Origin) (past : List Sourced) (kind : ℕ) → told_reasons o past (Reset kind ∷ bare_acts past) ≡ []
 reasons_of_reset o past kind =
     ap (λ events. objection_text o past (Reset kind ∷ bare_acts past) (objection_in events))
-    (take_one (length (bare_acts past)) (length past) (event o (log o (bare_acts past)) (Reset kind)) (log o (bare_acts past)) (as_many past))
-
--- what is told is lines, each with its line feed
-
-abbrev pub EndsLine : List ℕ → Type 0
-EndsLine text = (text ≡ []) ⊎ ((line : List ℕ) × (text ≡ line ++ 10 ∷ []))
-
-matter_ends : (profile : Profile) (look : LookUp) (rule : Rule) (matter : Matter) → EndsLine (matter_text profile look rule matter)
-matter_ends profile look rule ResetMatter =
-    inr (because_text no_reset_words ++ codes "lifted by: " ++ set_text profile look Admin tper_info programmatic_reset_enable_column 1, refl)
-matter_ends profile look rule OtherThanList = inr (codes "because " ++ list_words, refl)
-matter_ends profile look rule SendToDiscovery = inr (codes "because " ++ discovery_words, refl)
-matter_ends profile look rule LongResponse = inr (codes "because " ++ long_words, refl)
-matter_ends profile look rule Plain = inr (codes "because " ++ rule_words rule, refl)
-
-denial_ends : (o : Origin) (past : List Sourced) (acts : List Act) (command : Option Command) (why : Option Why) (rule : Option Rule) → EndsLine (denial_text o past acts command why rule)
-denial_ends o past acts command None None = inl refl
-denial_ends o past acts command None (Some rule) =
-    matter_ends o.tables.config.profile (in_force o (log o acts)) rule (matter_at o.tables.config.profile command rule)
-denial_ends o past acts command (Some why) rule =
-    let because = reasons_text (λ c. held_since (holds_after o c) past) (conditions_in (in_force o (log o (bare_acts past))) why) in
-    let remedy = remedy_text o.tables.config.profile (in_force o (log o acts)) why in
-    let pending = open_text (log o acts) (sp_asked why) in
-    inr (pending ++ (because ++ remedy), sym (append_assoc pending (because ++ remedy) (10 ∷ [])))
-
-pub reasons_end : (o : Origin) (past : List Sourced) (acts : List Act) → EndsLine (told_reasons o past acts)
-reasons_end o past acts =
-    let objection = objection_in (take (added acts past) (log o acts)) in denial_ends o past acts (command_done acts) objection.denied objection.rule
+    (take_one (length (bare_acts past)) (length (bare_acts past)) (event o (log o (bare_acts past)) (Reset kind)) (log o (bare_acts past)) refl)

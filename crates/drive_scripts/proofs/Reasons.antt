@@ -3,7 +3,7 @@ use Rattle.std.proofs.Common.{◌≡◌, ◌∙◌, ℕ, List, [], ◌∷◌, �
 use Rattle.history.specs.Opening.{Origin}
 use Rattle.history.specs.History.{Act, Reset}
 use Rattle.reasons.specs.declared.explained.onset.Source.{Source}
-use Rattle.reasons.specs.Chronicles.{KeptOnsets, Recounts}
+use Rattle.drive_scripts.specs.Kept.{KeptReasons, RecountsAll}
 use Rattle.reasons.specs.Onsets.{Sourced, bare_acts}
 use Rattle.drive_scripts.specs.Explanations.{attributed}
 use Rattle.drive_scripts.proofs.Added.{attributed_none, bare_none, bare_one, reasons_of_none, reasons_of_reset}
@@ -11,13 +11,13 @@ use Rattle.script_lines.specs.declared.report.Report.{Report}
 use Rattle.drive_scripts.specs.DriveCourses.{Explains}
 
 -- a line that does no act
-pub explains-none : (source : Source) (o : Origin) (past : List Sourced) (acts : List Act) (kept : KeptOnsets)
-    (report : Report) → acts ≡ bare_acts past → Recounts kept o past
+pub explains-none : (source : Source) (o : Origin) (past : List Sourced) (acts : List Act) (kept : KeptReasons)
+    (report : Report) → acts ≡ bare_acts past → RecountsAll kept o past
     → Explains source o past acts kept report report
 explains-none source o past acts kept report is recounts =
     subst (λ (acts : List Act). Explains source o past acts kept report report) (sym is) (record {
       bare = bare_none source past;
-      recounts = subst (λ (p : List Sourced). Recounts kept o p) (sym (attributed_none source past)) recounts;
+      recounts = subst (λ (p : List Sourced). RecountsAll kept o p) (sym (attributed_none source past)) recounts;
       pending = sym
           (ap (λ text. report.pending.items ++ text) (reasons_of_none o past)
           ∙ append-nil report.pending.items);
@@ -26,8 +26,8 @@ explains-none source o past acts kept report is recounts =
 
 -- a line that resets the drive
 pub explains-reset : (source : Source) (o : Origin) (past : List Sourced) (acts : List Act) (kind : ℕ)
-    (kept : KeptOnsets) (report : Report) → acts ≡ Reset kind ∷ bare_acts past
-    → Recounts kept o (attributed source (Reset kind ∷ bare_acts past) past)
+    (kept : KeptReasons) (report : Report) → acts ≡ Reset kind ∷ bare_acts past
+    → RecountsAll kept o (attributed source (Reset kind ∷ bare_acts past) past)
     → Explains source o past acts kept report report
 explains-reset source o past acts kind kept report is recounts =
     subst (λ (acts : List Act). Explains source o past acts kept report report) (sym is) (record {

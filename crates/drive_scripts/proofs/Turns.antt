@@ -11,7 +11,7 @@ use Rattle.script_lines.specs.declared.line.Line as told
 use Rattle.script_lines.specs.declared.line.Line.TheVariants as lines
 use Rattle.script_lines.specs.declared.report.Report.{Report}
 use Rattle.reasons.specs.declared.explained.onset.Source.{Source}
-use Rattle.reasons.specs.Chronicles.{KeptOnsets, Recounts}
+use Rattle.drive_scripts.specs.Kept.{KeptReasons, RecountsAll}
 use Rattle.reasons.specs.Onsets.{Sourced, bare_acts}
 use Rattle.drive_scripts.specs.Explanations.{told_reasons}
 use Rattle.drive_scripts.specs.Sources.{source_of}
@@ -109,7 +109,7 @@ steps-after (Err e) line text old new before after reads does = does
 
 -- reasons that are told behind what a line did
 
-has-explains : (new : RunningPhase) (kept : KeptOnsets) (o : Origin) (past : List Sourced) (source : Source)
+has-explains : (new : RunningPhase) (kept : KeptReasons) (o : Origin) (past : List Sourced) (source : Source)
     (before mid after : Report) (effect : LineEffect) → Has new o before mid effect
     → Explains source o past effect.acts kept mid after
     → ExplainedHas new kept o past source before after effect
@@ -121,7 +121,7 @@ has-explains new kept o past source before mid after effect has explains = recor
       explains.pending explains.last;
 }
 
-gone-explained : (turn : Turn) (aborted : Bool) (new : RunningPhase) (kept : KeptOnsets) (o : Origin)
+gone-explained : (turn : Turn) (aborted : Bool) (new : RunningPhase) (kept : KeptReasons) (o : Origin)
     (past : List Sourced) (source : Source) (before mid after : Report) (effect : LineEffect)
     → turn ≡ turns.Goes aborted → Has new o before mid effect
     → Explains source o past effect.acts kept mid after
@@ -130,7 +130,7 @@ gone-explained turn aborted new kept o past source before mid after effect is ha
     subst (λ turn. ExplainedSteps turn (Ok effect) source o past new kept before after) (sym is)
     (has-explains new kept o past source before mid after effect has explains)
 
-expects-explained : (held : Bool) (turn : Turn) (aborted : Bool) (old new : RunningPhase) (kept : KeptOnsets)
+expects-explained : (held : Bool) (turn : Turn) (aborted : Bool) (old new : RunningPhase) (kept : KeptReasons)
     (o : Origin) (past : List Sourced) (source : Source) (before mid after : Report)
     → turn ≡ turns.Goes aborted → RunsOn old o (bare_acts past) → new ≡ old → mid ≡ before
     → turn ≡ (if held then turns.Goes false else turns.ExpectationFailed)
@@ -145,7 +145,7 @@ expects-explained false turn aborted old new kept o past source before mid after
     absurd (cc (is, so))
 
 explained-so : (line : told.Line) (text : List ℕ) (turn : Turn) (aborted : Bool) (old new : RunningPhase)
-    (kept : KeptOnsets) (o : Origin) (past : List Sourced) (source : Source) (before mid after : Report)
+    (kept : KeptReasons) (o : Origin) (past : List Sourced) (source : Source) (before mid after : Report)
     → turn ≡ turns.Goes aborted → RunsOn old o (bare_acts past)
     → Does line text turn old new o (bare_acts past) before mid
     → ((acts : List Act) → RunsOn new o acts → Acted line new o (bare_acts past) acts
@@ -198,7 +198,7 @@ explained-so (lines.Range row) text turn aborted old new kept o past source befo
 
 -- what a line that was done did, with its reasons
 pub explained-after : (line : told.Line) (text : List ℕ) (turn : Turn) (aborted : Bool)
-    (old new : RunningPhase) (kept : KeptOnsets) (o : Origin) (past : List Sourced) (number : ℕ)
+    (old new : RunningPhase) (kept : KeptReasons) (o : Origin) (past : List Sourced) (number : ℕ)
     (before mid after : Report)
     → line_said text ≡ Ok line → turn ≡ turns.Goes aborted → RunsOn old o (bare_acts past)
     → Does line text turn old new o (bare_acts past) before mid
@@ -216,7 +216,7 @@ explained-after line text turn aborted old new kept o past number before mid aft
 
 -- a line that ended the run has no reasons
 pub explained-ends : (turn : Turn) (result : Result LineEffect ℕ) (source : Source) (o : Origin)
-    (past : List Sourced) (new : RunningPhase) (kept : KeptOnsets) (before after : Report)
+    (past : List Sourced) (new : RunningPhase) (kept : KeptReasons) (before after : Report)
     → ((aborted : Bool) → turn ≡ turns.Goes aborted → ⊥) → DriveSteps turn result new o before after
     → ExplainedSteps turn result source o past new kept before after
 explained-ends (turns.Goes aborted) result source o past new kept before after ends steps =
@@ -237,7 +237,7 @@ says-something turn aborted result fault o acts last text new before after is no
 
 -- a line that went on, with its reasons
 pub explained-gone : (read : Result told.Line LineFault) (text : List ℕ) (turn : Turn) (aborted : Bool)
-    (old new : RunningPhase) (kept : KeptOnsets) (o : Origin) (past : List Sourced) (number : ℕ)
+    (old new : RunningPhase) (kept : KeptReasons) (o : Origin) (past : List Sourced) (number : ℕ)
     (before mid after : Report)
     → line_said text ≡ read → turn ≡ turns.Goes aborted → RunsOn old o (bare_acts past)
     → ((line : told.Line) → line_said text ≡ Ok line → Does line text turn old new o (bare_acts past) before mid)
@@ -267,7 +267,7 @@ drive-plain turns.ExpectationFailed (Err status) new o before after none is = is
 drive-plain (turns.Bad fault) (Ok effect) new o before after none is = absurd is
 drive-plain (turns.Bad fault) (Err status) new o before after none is = is
 
-drive-explained : (turn : Turn) (result : Result LineEffect ℕ) (new : DrivePhase) (kept : KeptOnsets)
+drive-explained : (turn : Turn) (result : Result LineEffect ℕ) (new : DrivePhase) (kept : KeptReasons)
     (source : Source) (o : Origin) (past : List Sourced) (before after : Report)
     → new.explainer ≡ Some kept
     → ExplainedSteps turn result source o past new.run kept before after
@@ -309,11 +309,11 @@ plain-turn (Ok turn) old new number text before after was none does = by-course
 plain-turn (Err e) old new number text before after was none does = does
 
 -- and of one that keeps something
-pub kept-turn : {E : Type 0} (r : Result Turn E) (old new : DrivePhase) (kept now : KeptOnsets) (number : ℕ)
+pub kept-turn : {E : Type 0} (r : Result Turn E) (old new : DrivePhase) (kept now : KeptReasons) (number : ℕ)
     (text : List ℕ) (before after : Report) → old.explainer ≡ Some kept → new.explainer ≡ Some now
     → IfOk r
     (λ turn. (o : Origin) (past : List Sourced) → RunsOn old.run o (bare_acts past)
-    → Recounts kept o past
+    → RecountsAll kept o past
     → ExplainedSteps turn (line_course o (bare_acts past) before.last.items text (line_said text))
     (source_said number (line_said text)) o past new.run now before after)
     → IfOk r
@@ -330,7 +330,7 @@ kept-turn (Ok turn) old new kept now number text before after was is does = by-c
         let same : runs.1 ≡ kept = cc (runs.2, was) in
         drive-explained turn (line_course o (bare_acts past) before.last.items text (line_said text)) new now
         (source_said number (line_said text)) o past before after is
-        (does o past runs.0 (subst (λ k. Recounts k o past) same runs.3))
+        (does o past runs.0 (subst (λ k. RecountsAll k o past) same runs.3))
 kept-turn (Err e) old new kept now number text before after was is does = does
 
 -- where nothing was done
@@ -340,8 +340,8 @@ pub drive-starts : (explains : Bool) (drive : DrivePhase) (o : Origin) → expla
 drive-starts explains drive o plain none runs =
     subst (λ (b : Bool). DriveRunsOn drive o (drive_start b)) (sym plain) (runs, none)
 
-pub explained-starts : (explains : Bool) (drive : DrivePhase) (kept : KeptOnsets) (o : Origin) → explains ≡ true
-    → drive.explainer ≡ Some kept → RunsOn drive.run o [] → Recounts kept o []
+pub explained-starts : (explains : Bool) (drive : DrivePhase) (kept : KeptReasons) (o : Origin) → explains ≡ true
+    → drive.explainer ≡ Some kept → RunsOn drive.run o [] → RecountsAll kept o []
     → DriveRunsOn drive o (drive_start explains)
 explained-starts explains drive kept o so is runs recounts =
     subst (λ (b : Bool). DriveRunsOn drive o (drive_start b)) (sym so) (runs, kept, is, recounts)

@@ -4,7 +4,7 @@ use Rattle.std.specs.Str.{bytes_eq}
 use Rattle.history.specs.Opening.{Origin}
 use Rattle.history.specs.History.{Act}
 use Rattle.reasons.specs.declared.explained.onset.Source.{Source}
-use Rattle.reasons.specs.Chronicles.{KeptOnsets, Recounts}
+use Rattle.drive_scripts.specs.Kept.{KeptReasons, RecountsAll}
 use Rattle.reasons.specs.Onsets.{Sourced, bare_acts}
 use Rattle.script_lines.specs.Lines.{line_said, expected_text}
 use Rattle.script_lines.specs.declared.fault.LineFault.{LineFault}
@@ -80,7 +80,7 @@ abbrev pub DriveRunsOn : DrivePhase → Origin → DriveCourse → Type 0
 DriveRunsOn drive o (OnDrive acts) = RunsOn drive.run o acts × (drive.explainer ≡ None)
 DriveRunsOn drive o (ExplainedDrive past) =
     RunsOn drive.run o (bare_acts past)
-    × (kept : KeptOnsets) × (drive.explainer ≡ Some kept) × Recounts kept o past
+    × (kept : KeptReasons) × (drive.explainer ≡ Some kept) × RecountsAll kept o past
 
 abbrev pub DriveStands : DrivePhase → Type 0
 DriveStands drive = (o : Origin) × (course : DriveCourse) × DriveRunsOn drive o course
@@ -96,22 +96,22 @@ DriveSteps turn result new o before after = ⊥
 
 -- behind what a line printed its reasons are told, and what is kept for them goes on
 pub record Explains (source : Source) (o : Origin) (past : List Sourced) (acts : List Act)
-    (kept : KeptOnsets) (before after : Report) : Type 0 where
+    (kept : KeptReasons) (before after : Report) : Type 0 where
   pub bare : bare_acts (attributed source acts past) ≡ acts
-  pub recounts : Recounts kept o (attributed source acts past)
+  pub recounts : RecountsAll kept o (attributed source acts past)
   pub pending : after.pending.items ≡ before.pending.items ++ told_reasons o past acts
   pub last : after.last ≡ before.last
 
 -- the same where reasons are told, with what is kept for them
-pub record ExplainedHas (new : RunningPhase) (kept : KeptOnsets) (o : Origin) (past : List Sourced)
+pub record ExplainedHas (new : RunningPhase) (kept : KeptReasons) (o : Origin) (past : List Sourced)
     (source : Source) (before after : Report) (effect : LineEffect) : Type 0 where
   pub runs : RunsOn new o effect.acts
   pub bare : bare_acts (attributed source effect.acts past) ≡ effect.acts
-  pub recounts : Recounts kept o (attributed source effect.acts past)
+  pub recounts : RecountsAll kept o (attributed source effect.acts past)
   pub tells : PrintsWithReasons before after effect.lines (told_reasons o past effect.acts)
 
 abbrev pub ExplainedSteps : Turn → Result LineEffect ℕ → Source → Origin → List Sourced
-    → RunningPhase → KeptOnsets → Report → Report → Type 0
+    → RunningPhase → KeptReasons → Report → Report → Type 0
 ExplainedSteps (turns.Goes aborted) (Ok effect) source o past new kept before after =
     ExplainedHas new kept o past source before after effect
 ExplainedSteps turns.ExpectationFailed (Err status) source o past new kept before after =

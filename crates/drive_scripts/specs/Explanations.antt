@@ -4,6 +4,8 @@ use Rattle.std.specs.Prelude.{ℕ, ◌-◌, ◌||◌, Bool, true, false, codes, 
 use Rattle.fis.specs.H2d.{h2d_at}
 use Rattle.trusted_cmds.specs.declared.command.Command.{Command}
 use Rattle.sp_cells.specs.declared.names.Sp.{Sp}
+use Rattle.sp_cells.specs.declared.names.Sp.TheVariants.{Admin, Locking}
+use Rattle.sp_cells.specs.Config.{sizes_in}
 use Rattle.audit.specs.declared.reason.AttemptFailure.{AttemptFailure}
 use Rattle.audit.specs.declared.reason.AttemptFailure.TheVariants.{Disabled}
 use Rattle.audit.specs.declared.reason.Why.{Why}
@@ -14,19 +16,21 @@ use Rattle.history.specs.Events.{Event}
 use Rattle.history.specs.History.{Act, Accept, Complete, Reset, SoftwareReset, log}
 use Rattle.history.specs.Readers.{in_force, open_on}
 use Rattle.reasons.specs.declared.explained.onset.Source.{Source}
-use Rattle.reasons.specs.Onsets.{Sourced, bare_acts, held_since, holds_after}
+use Rattle.reasons.specs.Onsets.{Sourced, from_source, bare_acts, held_since, holds_after}
+use Rattle.reasons.specs.declared.explained.onset.Counted.{Counted}
+use Rattle.reasons.specs.declared.explained.onset.Counted.TheVariants.{Acts}
+use Rattle.reasons.specs.Lives.{life_of}
+use Rattle.reasons.specs.Asked.{Seen}
+use Rattle.reasons.specs.Details.{details_text}
 use Rattle.reasons.specs.Conditions.{range_place}
 use Rattle.reasons.specs.Called.{called_object}
 use Rattle.reasons.specs.Remedies.{sp_object}
-use Rattle.reasons.specs.Reasons.{explanation_text}
+use Rattle.reasons.specs.Reasons.{told_since}
 use Rattle.reasons.specs.Rulings.{command_carried, ruled_text}
 
 -- how many acts stand before the earlier ones
 abbrev pub added : List Act → List Sourced → ℕ
-added acts past = length acts - length past
-
-abbrev pub from_source : Source → Act → Sourced
-from_source source act = record { act = act; source = source }
+added acts past = length acts - length (bare_acts past)
 
 -- the acts of a line come from it, behind those that were before
 abbrev pub attributed : Source → List Act → List Sourced → List Sourced
@@ -57,6 +61,14 @@ command_done (Complete tag payload ∷ acts) = command_done acts
 command_done (Reset kind ∷ acts) = None
 command_done (SoftwareReset ∷ acts) = None
 
+-- and the bytes that it brought
+abbrev pub payload_done : List Act → List ℕ
+payload_done [] = []
+payload_done (Accept fis payload ∷ acts) = payload
+payload_done (Complete tag payload ∷ acts) = payload_done acts
+payload_done (Reset kind ∷ acts) = []
+payload_done (SoftwareReset ∷ acts) = []
+
 -- the SP whose rows a denial went by that a transaction may have changed: of a method for which no ACE holds, and of an
 -- authority that is not enabled
 abbrev pub sp_of_failure : Sp → AttemptFailure → Option Sp
@@ -79,21 +91,41 @@ abbrev pub open_text : List Event → Option Sp → List ℕ
 open_text past None = []
 open_text past (Some sp) = pending_text (is_some (open_on past sp)) sp
 
--- what is told of a denial, by the locks as they were before its acts, and by the rows in force behind them, or of the
--- rule, by the command and the rows in force: lines, each with its line feed
-abbrev pub denial_text : Origin → List Sourced → List Act → Option Command → Option Why
+-- a transaction is open on one of the SPs
+abbrev pub has_pending : List Event → Bool
+has_pending past = is_some (open_on past Admin) || is_some (open_on past Locking)
+
+abbrev pub seen_after : Origin → List Act → Seen
+seen_after o acts = record {
+  profile = o.tables.config.profile;
+  look = in_force o (log o acts);
+  sizes = sizes_in o.tables.config;
+  is_open = has_pending (log o acts);
+}
+
+-- what is told of a rule, by the command with its bytes, the rows in force and the sessions before it
+abbrev pub refusal_text : Counted → Origin → List Sourced → List Act → Option Command → List ℕ
     → Option Rule → List ℕ
-denial_text o past acts command None rule =
+refusal_text counted o past acts command payload rule =
     ruled_text o.tables.config.profile (in_force o (log o acts)) command rule
-denial_text o past acts command (Some why) rule =
+    ++ details_text counted (seen_after o acts) (life_of o past) payload rule
+
+-- what is told of a denial, by the locks as they were before its acts, and by the rows in force behind them, or of the
+-- rule: lines, each with its line feed
+abbrev pub denial_text : Counted → Origin → List Sourced → List Act → Option Command → List ℕ
+    → Option Why → Option Rule → List ℕ
+denial_text counted o past acts command payload None rule =
+    refusal_text counted o past acts command payload rule
+denial_text counted o past acts command payload (Some why) rule =
     open_text (log o acts) (sp_asked why)
-    ++ explanation_text (λ c. held_since (holds_after o c) past)
+    ++ told_since counted (λ c. held_since (holds_after o c) past)
     (range_place (in_force o (log o (bare_acts past)))) o.tables.config.profile
     (in_force o (log o acts)) why
 
 abbrev pub objection_text : Origin → List Sourced → List Act → Objection → List ℕ
 objection_text o past acts objection =
-    denial_text o past acts (command_done acts) objection.denied objection.rule
+    denial_text Acts o past acts (command_done acts) (payload_done acts) objection.denied
+    objection.rule
 
 -- what is told of the acts of a line
 abbrev pub told_reasons : Origin → List Sourced → List Act → List ℕ

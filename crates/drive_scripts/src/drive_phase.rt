@@ -4,7 +4,7 @@ ghost use Rattle.std.specs.Prelude.{◌≡◌, List, IfOk, OnOk, Ok};
 ghost use Rattle.history.specs.History.{Act};
 ghost use Rattle.history.specs.Opening.{Origin};
 ghost use Rattle.reasons.specs.Onsets.{Sourced, bare_acts};
-ghost use Rattle.reasons.specs.Chronicles.{Recounts};
+ghost use Rattle.drive_scripts.specs.Kept.{RecountsAll};
 ghost use Rattle.drive_scripts.specs.Sources.{source_of};
 ghost use Rattle.script_lines.specs.Lines.{line_said};
 ghost use Rattle.script_lines.specs.declared.line.Line.{Line as LineOf};
@@ -38,7 +38,7 @@ fn explain_line(
     ensures { OnOk result ((line : LineOf) → line_said text.now ≡ Ok line
         → (o : Origin) (past : List Sourced) (acts : List Act)
         → RunsOn run.now o acts → Acted line run.now o (bare_acts past) acts
-        → Recounts explainer.old o past
+        → RecountsAll explainer.old o past
         → Explains (source_of number line) o past acts explainer.new report.old report.new) }
 {
     match &Line::parse(text) {
@@ -57,7 +57,7 @@ fn explained_turn(
 ) -> Result<Turn, AllocError>
     requires { IsReached run.old }
     ensures { IfOk result (λ turn. (o : Origin) (past : List Sourced)
-        → RunsOn run.old o (bare_acts past) → Recounts explainer.old o past
+        → RunsOn run.old o (bare_acts past) → RecountsAll explainer.old o past
         → ExplainedSteps turn (line_course o (bare_acts past) report.old.last.items text.now
         (line_said text.now)) (source_said number (line_said text.now)) o past
         run.new explainer.new report.old report.new) }

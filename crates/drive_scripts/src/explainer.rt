@@ -7,13 +7,15 @@ use audit::rules::Rule;
 use audit::{AttemptFailure, Why};
 use drive::{Accepted, Drive, ResetKind};
 use fis::RegH2d;
-use reasons::explained::{Cause, Chronicle, Source, cause_in};
+use reasons::details::details_of;
+use reasons::explained::{Cause, Chronicle, Counted, SessionChronicle, Source, cause_in};
 use reasons::remedies::{append_object_name, sp_object};
 use reasons::rulings::{command_in, ruling_of};
 use script_lines::Report;
 use sp_cells::Sp;
 use std::alloc::{AllocError, Global};
 use std::marker::Model;
+use trusted_cmds::Command;
 
 /// The SP whose rows a denial went by that a transaction may have changed.
 fn sp_asked(why: &Why) -> Option<Sp>
@@ -48,52 +50,68 @@ fn append_pending(
     Ok(())
 }
 
-/// Since which act of a drive each of its locks has been in force.
+/// Since which act of a drive each of its locks has been in force, and a session has lived on each SP.
 #[derive(Drop)]
 pub struct Explainer {
     alloc: Global,
     chronicle: Chronicle,
+    sessions: SessionChronicle,
 }
 
 impl Model for Explainer {
-    ghost use Rattle.reasons.specs.Chronicles.{KeptOnsets};
+    ghost use Rattle.drive_scripts.specs.Kept.{KeptReasons};
 
-    ghost Value = { KeptOnsets };
+    ghost Value = { KeptReasons };
 
-    ghost view = { λ e. e.chronicle };
+    ghost view = { λ e. record { onsets = e.chronicle; sessions = e.sessions } };
 }
 
 impl Explainer {
-    ghost use Rattle.std.specs.Prelude.{◌≡◌, ◌∷◌, ◌++◌, [], ℕ, List, is_some, IfOk, OnOk};
+    ghost use Rattle.std.specs.Prelude.{◌≡◌, ◌∷◌, ◌++◌, [], ℕ, List, is_some, option_map, IfOk, OnOk};
     ghost use Rattle.fis.specs.H2d.{h2d_at};
     ghost use Rattle.history.specs.Opening.{Origin};
     ghost use Rattle.history.specs.History.{Act, Reset, log};
-    ghost use Rattle.history.specs.Readers.{in_force, open_on};
+    ghost use Rattle.history.specs.Readers.{in_force, open_on, session_on};
+    ghost use Rattle.sp_cells.specs.declared.names.Sp.{Sp};
     ghost use Rattle.history.specs.Resets.{reset_kind_number};
     ghost use Rattle.drive.specs.State.{Agrees};
-    ghost use Rattle.reasons.specs.Onsets.{Sourced, bare_acts, cause_of, held_since, holds_after};
+    ghost use Rattle.reasons.specs.Onsets.{Sourced, bare_acts, cause_at, held_since, holds_after};
     ghost use Rattle.reasons.specs.Conditions.{range_place};
-    ghost use Rattle.reasons.specs.Reasons.{explanation_text};
-    ghost use Rattle.reasons.specs.Chronicles.{Recounts};
+    ghost use Rattle.reasons.specs.Reasons.{told_since};
+    ghost use Rattle.drive_scripts.specs.Kept.{RecountsAll};
+    ghost use Rattle.reasons.specs.declared.explained.onset.Counted.TheVariants.{Acts};
+    ghost use Rattle.reasons.specs.Lives.{life_of};
+    ghost use Rattle.reasons.specs.Details.{details_text};
     ghost use Rattle.reasons.specs.Rulings.{command_carried, ruled_text};
-    ghost use Rattle.drive_scripts.specs.Explanations.{from_source, attributed, once_served, open_text, denial_text};
+    ghost use Rattle.drive_scripts.specs.Explanations.{attributed, once_served, open_text, has_pending, seen_after, refusal_text, denial_text};
 
     /// Of a drive that has done no act.
     pub fn new(alloc: Global, drive: &Drive) -> Explainer
-        ensures { (o : Origin) → Agrees drive.now o [] → Recounts result o [] }
+        ensures { (o : Origin) → Agrees drive.now o [] → RecountsAll result o [] }
     {
         let chronicle = Chronicle::opened(&drive.in_force());
-        Explainer { alloc, chronicle }
+        let sessions = SessionChronicle::opened();
+        Explainer {
+            alloc,
+            chronicle,
+            sessions,
+        }
     }
 
-    /// Notes an act of this cause, by the rows in force now: they are those behind the act.
-    fn note(&mut self, drive: &Drive, source: Source, cause: Cause)
-        ensures { (o : Origin) (act : Act) (past : List Sourced) (acts : List Act)
-            → cause_of act ≡ cause → Agrees drive.now o acts
-            → in_force o (log o acts) ≡ in_force o (log o (act ∷ bare_acts past))
-            → Recounts self.old o past → Recounts self.new o (from_source source act ∷ past) }
+    /// Notes an act of this source and cause, or a step of a port that does none, by the rows in force and the sessions now:
+    /// they are those behind it.
+    pub fn note(&mut self, drive: &Drive, source: Source, cause: Cause)
+        ensures { (o : Origin) (s : Sourced) (past : List Sourced) (acts : List Act)
+            → s.source ≡ source → cause_at s.act ≡ cause → Agrees drive.now o acts
+            → in_force o (log o acts) ≡ in_force o (log o (bare_acts (s ∷ past)))
+            → ((sp : Sp) → session_on (log o acts) sp
+            ≡ session_on (log o (bare_acts (s ∷ past))) sp)
+            → RecountsAll self.old o past → RecountsAll self.new o (s ∷ past) }
     {
         self.chronicle.note_act(&drive.in_force(), source, cause);
+        let on_admin = drive.has_session(Sp::Admin);
+        let on_locking = drive.has_session(Sp::Locking);
+        self.sessions.note_act(on_admin, on_locking, source, cause);
     }
 
     /// Notes a command: its acceptance with the FIS and the payload, and where it was held its completion. The drive has
@@ -109,8 +127,8 @@ impl Explainer {
         ensures { (o : Origin) (past : List Sourced) (acts : List Act) (fis : List ℕ) (tag : ℕ)
             (bytes : List ℕ) → h2d_at fis ≡ h.now
             → acts ≡ once_served held fis payload.now tag bytes (bare_acts past)
-            → Agrees drive.now o acts → Recounts self.old o past
-            → Recounts self.new o (attributed source acts past) }
+            → Agrees drive.now o acts → RecountsAll self.old o past
+            → RecountsAll self.new o (attributed source acts past) }
     {
         self.note(drive, source, cause_in(h, payload));
         if held {
@@ -122,25 +140,79 @@ impl Explainer {
     pub fn note_reset(&mut self, drive: &Drive, kind: ResetKind, source: Source)
         ensures { (o : Origin) (past : List Sourced)
             → Agrees drive.now o (Reset (reset_kind_number kind) ∷ bare_acts past)
-            → Recounts self.old o past
-            → Recounts self.new o
+            → RecountsAll self.old o past
+            → RecountsAll self.new o
             (attributed source (Reset (reset_kind_number kind) ∷ bare_acts past) past) }
     {
         self.note(drive, source, Cause::ResetBy(kind.number()));
     }
 
-    /// The lines that tell by which rule the command of a FIS was refused, each with its line feed; none where none did.
-    fn rule_lines(
+    /// Whether a transaction is open on one of the SPs.
+    fn has_pending(&self, drive: &Drive) -> bool
+        ensures { (o : Origin) (acts : List Act) → Agrees drive.now o acts
+            → result ≡ has_pending (log o acts) }
+    {
+        drive.has_transaction(Sp::Admin) || drive.has_transaction(Sp::Locking)
+    }
+
+    /// What more is told of the bytes of a command that a rule refused.
+    fn detail_lines(
+        &self,
+        counted: Counted,
+        drive: &Drive,
+        payload: &[u8],
+        rule: Option<Rule>,
+    ) -> Result<Vec<u8>, AllocError>
+        ensures { IfOk result (λ text. (o : Origin) (past : List Sourced) (acts : List Act)
+            → Agrees drive.now o acts → RecountsAll self.now o past
+            → text.items ≡ details_text counted (seen_after o acts) (life_of o past) payload.now
+            rule) }
+    {
+        let is_open = self.has_pending(drive);
+        let rows = drive.in_force();
+        let text = details_of(
+            self.alloc,
+            counted,
+            &rows,
+            is_open,
+            &self.sessions,
+            payload,
+            rule,
+        )?;
+        Ok(text)
+    }
+
+    /// The lines that tell by which rule a command was refused, each with its line feed; none where none did.
+    fn ruled_lines(
         &self,
         drive: &Drive,
-        h: &RegH2d,
+        command: Option<Command>,
         rule: Option<Rule>,
     ) -> Result<Vec<u8>, AllocError>
         ensures { IfOk result (λ text. (o : Origin) (acts : List Act) → Agrees drive.now o acts
-            → text.items ≡ ruled_text o.tables.config.profile (in_force o (log o acts))
-            (command_carried h.now) rule) }
+            → text.items ≡ ruled_text o.tables.config.profile (in_force o (log o acts)) command
+            rule) }
     {
-        let text = ruling_of(self.alloc, &drive.in_force(), command_in(h), rule)?;
+        let text = ruling_of(self.alloc, &drive.in_force(), command, rule)?;
+        Ok(text)
+    }
+
+    /// The same, and what more is told of its bytes.
+    fn rule_lines(
+        &self,
+        counted: Counted,
+        drive: &Drive,
+        command: Option<Command>,
+        payload: &[u8],
+        rule: Option<Rule>,
+    ) -> Result<Vec<u8>, AllocError>
+        ensures { IfOk result (λ text. (o : Origin) (past : List Sourced) (acts : List Act)
+            → Agrees drive.now o acts → RecountsAll self.now o past
+            → text.items ≡ refusal_text counted o past acts command payload.now rule) }
+    {
+        let mut text = self.ruled_lines(drive, command, rule)?;
+        let details = self.detail_lines(counted, drive, payload, rule)?;
+        text.extend_from_slice(&details)?;
         Ok(text)
     }
 
@@ -166,36 +238,66 @@ impl Explainer {
     }
 
     /// The lines that tell since when what denied a command has been in force, and what would lift it.
-    fn explanation(&self, drive: &Drive, why: &Why) -> Result<Vec<u8>, AllocError>
+    fn explanation(&self, counted: Counted, drive: &Drive, why: &Why) -> Result<Vec<u8>, AllocError>
         ensures { IfOk result (λ text. (o : Origin) (past : List Sourced) (acts : List Act)
-            → Agrees drive.now o acts → Recounts self.now o past
-            → text.items ≡ explanation_text (λ c. held_since (holds_after o c) past)
+            → Agrees drive.now o acts → RecountsAll self.now o past
+            → text.items ≡ told_since counted (λ c. held_since (holds_after o c) past)
             (range_place (in_force o (log o (bare_acts past)))) o.tables.config.profile
             (in_force o (log o acts)) why.now) }
     {
-        let text = self.chronicle.explain(self.alloc, &drive.in_force(), why)?;
+        let rows = drive.in_force();
+        let text = self.chronicle.explain_by(self.alloc, counted, &rows, why)?;
         Ok(text)
     }
 
-    /// The lines that tell why the command of a FIS was refused with this answer, each with its line feed; none where it
-    /// was not.
-    fn reasons(&self, drive: &Drive, h: &RegH2d, answer: &Accepted) -> Result<Vec<u8>, AllocError>
+    /// The lines that tell what denied a command, each with its line feed.
+    fn denial_lines(
+        &self,
+        counted: Counted,
+        drive: &Drive,
+        why: &Why,
+    ) -> Result<Vec<u8>, AllocError>
         ensures { IfOk result (λ text. (o : Origin) (past : List Sourced) (acts : List Act)
-            → Agrees drive.now o acts → Recounts self.now o past
-            → text.items ≡ denial_text o past acts (command_carried h.now) answer.now.denied
-            answer.now.rule) }
+            → Agrees drive.now o acts → RecountsAll self.now o past
+            → text.items ≡ open_text (log o acts) (sp_asked why.now)
+            ++ told_since counted (λ c. held_since (holds_after o c) past)
+            (range_place (in_force o (log o (bare_acts past)))) o.tables.config.profile
+            (in_force o (log o acts)) why.now) }
     {
-        let Some(why) = &answer.denied else {
-            return self.rule_lines(drive, h, answer.rule);
-        };
         let mut text = self.open_line(drive, sp_asked(why))?;
-        let told = self.explanation(drive, why)?;
+        let told = self.explanation(counted, drive, why)?;
         text.extend_from_slice(&told)?;
         Ok(text)
     }
 
-    /// Prints why the command of a FIS was refused with this answer, behind what it printed: what is expected is not held
-    /// against these lines. The drive has done the command, which is not noted yet.
+    /// The lines that tell why a command with these bytes was refused, by what denied it, or else by the rule, each with its line
+    /// feed; none where neither did. The drive has done the command, which is not noted yet.
+    ///
+    /// # Errors
+    ///
+    /// Want of memory.
+    pub fn reasons(
+        &self,
+        counted: Counted,
+        drive: &Drive,
+        command: Option<Command>,
+        payload: &[u8],
+        denied: Option<&Why>,
+        rule: Option<Rule>,
+    ) -> Result<Vec<u8>, AllocError>
+        ensures { IfOk result (λ text. (o : Origin) (past : List Sourced) (acts : List Act)
+            → Agrees drive.now o acts → RecountsAll self.now o past
+            → text.items ≡ denial_text counted o past acts command payload.now
+            (option_map (λ why. why.now) denied.entry) rule) }
+    {
+        match denied {
+            Some(why) => self.denial_lines(counted, drive, why),
+            None => self.rule_lines(counted, drive, command, payload, rule),
+        }
+    }
+
+    /// Prints why the command of a FIS with these bytes was refused with this answer, behind what it printed: what is expected
+    /// is not held against these lines. The drive has done the command, which is not noted yet.
     ///
     /// # Errors
     ///
@@ -204,18 +306,21 @@ impl Explainer {
         &self,
         drive: &Drive,
         h: &RegH2d,
+        payload: &[u8],
         answer: &Accepted,
         report: &mut Report,
     ) -> Result<(), AllocError>
         ensures pending { OnOk result ((o : Origin) (past : List Sourced) (acts : List Act)
-            → Agrees drive.now o acts → Recounts self.now o past
+            → Agrees drive.now o acts → RecountsAll self.now o past
             → report.new.pending.items
             ≡ report.old.pending.items
-            ++ denial_text o past acts (command_carried h.now) answer.now.denied
+            ++ denial_text Acts o past acts (command_carried h.now) payload.now answer.now.denied
             answer.now.rule) }
         ensures last { report.new.last ≡ report.old.last }
     {
-        let text = self.reasons(drive, h, answer)?;
+        let command = command_in(h);
+        let denied = answer.denied.as_ref();
+        let text = self.reasons(Counted::Acts, drive, command, payload, denied, answer.rule)?;
         report.pending.extend_from_slice(&text)?;
         Ok(())
     }

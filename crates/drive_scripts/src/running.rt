@@ -47,7 +47,7 @@ impl RunningPhase {
     ghost use Rattle.history.specs.Opening.{Origin};
     ghost use Rattle.history.specs.History.{Act, log};
     ghost use Rattle.reasons.specs.Onsets.{Sourced, bare_acts};
-    ghost use Rattle.reasons.specs.Chronicles.{Recounts};
+    ghost use Rattle.drive_scripts.specs.Kept.{RecountsAll};
     ghost use Rattle.drive.specs.State.{Agrees};
     ghost use Rattle.drive_scripts.specs.Effects.{RunsOn, IsReached, Accepts, Has, Makes, completion_effect, transferred, command_effect, sends, receives, effect_of, reset_effect, Does, GoesTruly, Answered, Acted};
     ghost use Rattle.drive_scripts.specs.DriveCourses.{line_course, DriveSteps, Explains};
@@ -423,10 +423,16 @@ impl RunningPhase {
     ) -> Result<(), AllocError>
         ensures { OnOk result ((o : Origin) (past : List Sourced) (acts : List Act)
             → RunsOn self.now o acts → Answered self.now o (bare_acts past) acts
-            → Recounts explainer.old o past
+            → RecountsAll explainer.old o past
             → Explains source o past acts explainer.new report.old report.new) }
     {
-        explainer.explain(&self.drive, &self.header, &self.answer, report)?;
+        explainer.explain(
+            &self.drive,
+            &self.header,
+            &self.payload,
+            &self.answer,
+            report,
+        )?;
         explainer.note_command(
             &self.drive,
             &self.header,
@@ -448,7 +454,7 @@ impl RunningPhase {
     ) -> Result<(), AllocError>
         ensures { OnOk result ((o : Origin) (past : List Sourced) (acts : List Act)
             → RunsOn self.now o acts → Acted line.now self.now o (bare_acts past) acts
-            → Recounts explainer.old o past
+            → RecountsAll explainer.old o past
             → Explains source o past acts explainer.new report.old report.new) }
     {
         match line {

@@ -1,4 +1,5 @@
 mod OnsetLaws
 mod Keeping
+mod Living
 mod RestLaws
 mod Noting

@@ -4,8 +4,12 @@ pub mod Phrases
 pub mod Remedies
 pub mod Conditions
 pub mod Onsets
+pub mod Lives
 pub mod Chronicles
 pub mod Reasons
 pub mod Rests
 pub mod Lifts
 pub mod Rulings
+pub mod Sent
+pub mod Asked
+pub mod Details

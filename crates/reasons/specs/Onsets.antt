@@ -19,14 +19,21 @@ use Rattle.reasons.specs.declared.explained.onset.Onset.{Onset}
 use Rattle.reasons.specs.declared.explained.onset.Onset.TheVariants.{AtOpening, AtAct}
 use Rattle.reasons.specs.Conditions.{is_in_force}
 
--- an act, and where it comes from
+-- an act, or a step of a port that does none on the drive, and where it comes from
 pub record Sourced : Type 0 where
-  pub act : Act
+  pub act : Option Act
   pub source : Source
+
+abbrev pub from_source : Source → Act → Sourced
+from_source source act = record { act = Some act; source = source }
+
+abbrev pub with_act : Option Act → List Act → List Act
+with_act None acts = acts
+with_act (Some act) acts = act ∷ acts
 
 abbrev pub bare_acts : List Sourced → List Act
 bare_acts [] = []
-bare_acts (s ∷ before) = s.act ∷ bare_acts before
+bare_acts (s ∷ before) = with_act s.act (bare_acts before)
 
 -- the token that ends a transaction, and the empty one, which may stand before it (Core 2.01, section 3.2.2.4)
 abbrev pub end_token : ℕ
@@ -65,13 +72,17 @@ cause_of (Complete tag payload) = NoCause
 cause_of (Reset kind) = ResetBy kind
 cause_of SoftwareReset = NoCause
 
--- acts are counted from 1, as far as 64 bits count
+abbrev pub cause_at : Option Act → Cause
+cause_at None = NoCause
+cause_at (Some act) = cause_of act
+
+-- acts are counted from 1, as far as 64 bits count; of a port its steps are
 abbrev pub act_number : List Sourced → ℕ
 act_number past = length past % 2 ^ 64
 
 -- an act behind those before it
 abbrev pub onset_at : Sourced → List Sourced → Onset
-onset_at s before = AtAct (act_number (s ∷ before)) s.source (cause_of s.act)
+onset_at s before = AtAct (act_number (s ∷ before)) s.source (cause_at s.act)
 
 -- it goes on since then, or begins now
 abbrev pub first_onset : Option Onset → Onset → Onset

@@ -6,6 +6,7 @@
 --   because act 15: commit of Locking_Range1 ReadLocked = 1 by client 3 in session 4097, line 17
 --   because act 20: a power cycle, LockOnReset: Locking_Range1 ReadLocked = 1, line 22
 --   because act 20: a power cycle, DoneOnReset: MBRControl Enable = 1 and Done = 0, line 22
+--   because step 12: Set of Locking_Range1 ReadLocked = 1 by client 3 in session 4097, line 14
 --   lifted by: Set of Locking_Range1 ReadLocked = 0 by Admins (ACE_Locking_Range1_Set_RdLocked)
 use Rattle.std.specs.Prelude.{ℕ, zero, suc, List, [], ◌∷◌, ◌++◌, Option, None, Some, codes, decimal, if◌then◌else◌}
 use Rattle.basics.specs.declared.profile.Profile.{Profile}
@@ -23,6 +24,8 @@ use Rattle.reasons.specs.declared.explained.condition.Condition.TheVariants.{Loc
 use Rattle.reasons.specs.declared.explained.onset.Source.{Source}
 use Rattle.reasons.specs.declared.explained.onset.Cause.{Cause}
 use Rattle.reasons.specs.declared.explained.onset.Cause.TheVariants.{SetIn, CommittedIn, ResetBy, NoCause}
+use Rattle.reasons.specs.declared.explained.onset.Counted.{Counted}
+use Rattle.reasons.specs.declared.explained.onset.Counted.TheVariants.{Acts, Steps}
 use Rattle.reasons.specs.declared.explained.onset.Onset.{Onset}
 use Rattle.reasons.specs.declared.explained.onset.Onset.TheVariants.{AtOpening, AtAct}
 use Rattle.reasons.specs.Conditions.{flag_column, has_range, range_named, conditions_of}
@@ -86,28 +89,40 @@ cause_text condition source (ResetBy kind) =
     ++ condition_text condition
 cause_text condition source NoCause = condition_text condition
 
-unfoldable pub onset_text : Condition → Onset → List ℕ
-onset_text condition AtOpening = codes "the opening: " ++ condition_text condition
-onset_text condition (AtAct number source cause) =
-    worded_number (codes "act ") number ++ codes ": " ++ cause_text condition source cause
+-- what is counted: the acts of a drive, or the steps of a port
+abbrev pub counted_words : Counted → List ℕ
+counted_words Acts = codes "act "
+counted_words Steps = codes "step "
+
+unfoldable pub onset_text : Counted → Condition → Onset → List ℕ
+onset_text counted condition AtOpening = codes "the opening: " ++ condition_text condition
+onset_text counted condition (AtAct number source cause) =
+    worded_number (counted_words counted) number ++ codes ": " ++ cause_text condition source cause
     ++ worded_number (codes ", line ") source.line
 
 -- the line of a condition, with its line feed; none where it does not hold
-abbrev pub line_since : Condition → Option Onset → List ℕ
-line_since condition None = []
-line_since condition (Some onset) = codes "because " ++ onset_text condition onset ++ 10 ∷ []
+abbrev pub line_since : Counted → Condition → Option Onset → List ℕ
+line_since counted condition None = []
+line_since counted condition (Some onset) =
+    codes "because " ++ onset_text counted condition onset ++ 10 ∷ []
 
-abbrev pub reason_text : Condition → Option Onset → List ℕ
-reason_text condition onset = if has_range condition then line_since condition onset else []
+abbrev pub reason_text : Counted → Condition → Option Onset → List ℕ
+reason_text counted condition onset =
+    if has_range condition then line_since counted condition onset else []
 
-abbrev pub reasons_text : (Condition → Option Onset) → List Condition → List ℕ
-reasons_text onset [] = []
-reasons_text onset (condition ∷ conditions) =
-    reason_text condition (onset condition) ++ reasons_text onset conditions
+abbrev pub reasons_text : Counted → (Condition → Option Onset) → List Condition → List ℕ
+reasons_text counted onset [] = []
+reasons_text counted onset (condition ∷ conditions) =
+    reason_text counted condition (onset condition) ++ reasons_text counted onset conditions
 
 -- all that is told of a denial
+abbrev pub told_since : Counted → (Condition → Option Onset) → (ℕ → Place) → Profile → LookUp → Why
+    → List ℕ
+told_since counted onset place profile rows why =
+    reasons_text counted onset (conditions_of why (place (range_named why)))
+    ++ remedy_text profile rows why ++ 10 ∷ []
+
+-- since which act of a drive
 abbrev pub explanation_text : (Condition → Option Onset) → (ℕ → Place) → Profile → LookUp → Why
     → List ℕ
-explanation_text onset place profile rows why =
-    reasons_text onset (conditions_of why (place (range_named why)))
-    ++ remedy_text profile rows why ++ 10 ∷ []
+explanation_text = told_since Acts

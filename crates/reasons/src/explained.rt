@@ -3,6 +3,7 @@
 mod chronicle;
 mod condition;
 mod laws;
+mod lives;
 mod onset;
 mod onsets;
 mod reason;
@@ -10,4 +11,6 @@ mod reason;
 pub use chronicle::Chronicle;
 pub use condition::{Condition, Flag, Place, conditions_of, range_named};
 pub use laws::{laws_of_onsets, laws_of_reasons};
-pub use onset::{Cause, Onset, Source, cause_in};
+pub use lives::{SessionChronicle, SpLife};
+pub use onset::{Cause, Counted, Onset, Source, cause_in};
+pub(crate) use reason::{append_client, append_number, append_place, counted_word, reset_kind};

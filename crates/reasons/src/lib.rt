@@ -2,6 +2,9 @@
 //! why a rule refused what nothing denied.
 #![tactic(auto)]
 
+mod asked;
+pub mod details;
 pub mod explained;
 pub mod remedies;
 pub mod rulings;
+mod sent;

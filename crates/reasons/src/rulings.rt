@@ -108,7 +108,7 @@ fn matter_at(profile: Profile, command: Option<Command>, rule: Rule) -> Matter
 }
 
 /// Appends a line that begins with `because `, with its line feed.
-fn append_because(text: &mut Vec<u8>, words: &[u8]) -> Result<(), AllocError>
+pub(crate) fn append_because(text: &mut Vec<u8>, words: &[u8]) -> Result<(), AllocError>
     ensures { OnOk result (text.new.items ≡ text.old.items ++ because_text words.now) }
 {
     text.extend_from_slice(b"because ")?;

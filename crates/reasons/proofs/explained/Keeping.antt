@@ -13,9 +13,10 @@ use Rattle.reasons.specs.declared.explained.onset.Onset.{Onset}
 use Rattle.reasons.specs.declared.explained.onsets.RangeOnsets.{RangeOnsets}
 use Rattle.reasons.specs.Conditions.{HasRange, has_range, is_in_force, nowhere, place_in, same_place, range_place, range_named, conditions_of}
 use Rattle.reasons.specs.declared.explained.onset.Onset.TheVariants.{AtOpening, AtAct}
-use Rattle.reasons.specs.Onsets.{Sourced, bare_acts, act_number, cause_of, onset_at, onset_after, held_since, holds_after}
+use Rattle.reasons.specs.Onsets.{Sourced, bare_acts, act_number, cause_at, onset_at, onset_after, held_since, holds_after}
 use Rattle.reasons.specs.Chronicles.{KeptOnsets, Recounts, no_onsets, onset_of_flag, onset_of_place, kept_onset, kept_place, range_onsets_after}
-use Rattle.reasons.specs.Reasons.{line_since, reason_text, reasons_text, explanation_text}
+use Rattle.reasons.specs.declared.explained.onset.Counted.{Counted}
+use Rattle.reasons.specs.Reasons.{line_since, reason_text, reasons_text, told_since}
 use Rattle.reasons.specs.Remedies.{remedy_text}
 use Rattle.audit.specs.declared.reason.Why.{Why}
 use Rattle.basics.specs.declared.profile.Profile.{Profile}
@@ -107,36 +108,36 @@ opens k o rows acts onsets places same = record {
 
 pub goes-on : (k new : KeptOnsets) (o : Origin) (s : Sourced) (past : List Sourced) (rows : LookUp)
     → new.acts ≡ (k.acts + 1) % 2 ^ 64
-    → ((c : Condition) → HasRange c → kept_onset new c ≡ onset_after (kept_onset k c) (is_in_force rows c) (AtAct new.acts s.source (cause_of s.act)))
+    → ((c : Condition) → HasRange c → kept_onset new c ≡ onset_after (kept_onset k c) (is_in_force rows c) (AtAct new.acts s.source (cause_at s.act)))
     → ((range : ℕ) → kept_place new range ≡ range_place rows range)
     → rows ≡ in_force o (log o (bare_acts (s ∷ past))) → Recounts k o past → Recounts new o (s ∷ past)
 goes-on k new o s past rows acts onsets places same kept =
     let counted : new.acts ≡ act_number (s ∷ past) = acts ∙ one_more k.acts s past kept.acts in record {
       acts = counted;
       onsets = λ c has. onsets c has
-          ∙ ap (λ (n : ℕ). onset_after (kept_onset k c) (is_in_force rows c) (AtAct n s.source (cause_of s.act))) counted
+          ∙ ap (λ (n : ℕ). onset_after (kept_onset k c) (is_in_force rows c) (AtAct n s.source (cause_at s.act))) counted
           ∙ ap (λ (was : Option Onset). onset_after was (is_in_force rows c) (onset_at s past)) (kept.onsets c has)
           ∙ ap (λ (look : LookUp). onset_after (held_since (holds_after o c) past) (is_in_force look c) (onset_at s past)) same;
       places = λ range. places range ∙ ap (λ (look : LookUp). range_place look range) same;
     }
 
 -- what is kept tells the same lines as the acts
-same_line : (condition : Condition) (b : Bool) (x y : Option Onset) → (b ≡ true → x ≡ y)
-    → (if b then line_since condition x else []) ≡ (if b then line_since condition y else [])
-same_line condition true x y e = ap (line_since condition) (e refl)
-same_line condition false x y e = refl
+same_line : (counted : Counted) (condition : Condition) (b : Bool) (x y : Option Onset) → (b ≡ true → x ≡ y)
+    → (if b then line_since counted condition x else []) ≡ (if b then line_since counted condition y else [])
+same_line counted condition true x y e = ap (line_since counted condition) (e refl)
+same_line counted condition false x y e = refl
 
-same_reasons : (k : KeptOnsets) (o : Origin) (past : List Sourced) (conditions : List Condition) → Recounts k o past
-    → reasons_text (kept_onset k) conditions ≡ reasons_text (λ c. held_since (holds_after o c) past) conditions
-same_reasons k o past [] r = refl
-same_reasons k o past (c ∷ conditions) r =
-    ap (λ l. l ++ reasons_text (kept_onset k) conditions) (same_line c (has_range c) (kept_onset k c) (held_since (holds_after o c) past) (λ is. r.onsets c is))
-    ∙ ap (λ l. reason_text c (held_since (holds_after o c) past) ++ l) (same_reasons k o past conditions r)
+same_reasons : (counted : Counted) (k : KeptOnsets) (o : Origin) (past : List Sourced) (conditions : List Condition) → Recounts k o past
+    → reasons_text counted (kept_onset k) conditions ≡ reasons_text counted (λ c. held_since (holds_after o c) past) conditions
+same_reasons counted k o past [] r = refl
+same_reasons counted k o past (c ∷ conditions) r =
+    ap (λ l. l ++ reasons_text counted (kept_onset k) conditions) (same_line counted c (has_range c) (kept_onset k c) (held_since (holds_after o c) past) (λ is. r.onsets c is))
+    ∙ ap (λ l. reason_text counted c (held_since (holds_after o c) past) ++ l) (same_reasons counted k o past conditions r)
 
-pub same_explanation : (k : KeptOnsets) (o : Origin) (past : List Sourced) (profile : Profile) (rows : LookUp) (why : Why) → Recounts k o past
-    → explanation_text (kept_onset k) (kept_place k) profile rows why
-    ≡ explanation_text (λ c. held_since (holds_after o c) past) (range_place (in_force o (log o (bare_acts past)))) profile rows why
-same_explanation k o past profile rows why r =
-    ap (λ (place : Place). reasons_text (kept_onset k) (conditions_of why place) ++ remedy_text profile rows why ++ 10 ∷ []) (r.places (range_named why))
+pub same_explanation : (counted : Counted) (k : KeptOnsets) (o : Origin) (past : List Sourced) (profile : Profile) (rows : LookUp) (why : Why) → Recounts k o past
+    → told_since counted (kept_onset k) (kept_place k) profile rows why
+    ≡ told_since counted (λ c. held_since (holds_after o c) past) (range_place (in_force o (log o (bare_acts past)))) profile rows why
+same_explanation counted k o past profile rows why r =
+    ap (λ (place : Place). reasons_text counted (kept_onset k) (conditions_of why place) ++ remedy_text profile rows why ++ 10 ∷ []) (r.places (range_named why))
     ∙ ap (λ l. l ++ remedy_text profile rows why ++ 10 ∷ [])
-    (same_reasons k o past (conditions_of why (range_place (in_force o (log o (bare_acts past))) (range_named why))) r)
+    (same_reasons counted k o past (conditions_of why (range_place (in_force o (log o (bare_acts past))) (range_named why))) r)

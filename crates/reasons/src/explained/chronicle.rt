@@ -6,7 +6,7 @@ ghost use Rattle.sp_cells.specs.declared.names.TheConstants.{RANGES};
 ghost use Rattle.reasons.specs.Chronicles.{no_onsets, range_onsets_after};
 
 use crate::explained::condition::{Condition, Place, conditions_of, range_named};
-use crate::explained::onset::{Cause, Onset, Source, onset_after};
+use crate::explained::onset::{Cause, Counted, Onset, Source, onset_after};
 use crate::explained::onsets::RangeOnsets;
 use crate::explained::reason::append_line;
 use crate::remedies::remedy_bytes;
@@ -52,9 +52,9 @@ impl Chronicle {
     ghost use Rattle.history.specs.History.{log};
     ghost use Rattle.reasons.specs.declared.explained.onset.Onset.TheVariants.{AtOpening};
     ghost use Rattle.reasons.specs.Conditions.{HasRange, is_in_force, range_place, conditions_of};
-    ghost use Rattle.reasons.specs.Onsets.{Sourced, bare_acts, cause_of, onset_after, held_since, holds_after};
+    ghost use Rattle.reasons.specs.Onsets.{Sourced, bare_acts, cause_at, onset_after, held_since, holds_after};
     ghost use Rattle.reasons.specs.Chronicles.{KeptOnsets, kept_onset, kept_place, Recounts};
-    ghost use Rattle.reasons.specs.Reasons.{reason_text, reasons_text, explanation_text};
+    ghost use Rattle.reasons.specs.Reasons.{reason_text, reasons_text, told_since, explanation_text};
 
     /// Nothing holds yet.
     #[tactic(auto, using(crate::proofs::explained::Keeping::none_set, crate::proofs::explained::Keeping::none_placed))]
@@ -94,10 +94,11 @@ impl Chronicle {
         chronicle
     }
 
-    /// Notes what holds after an act of this source and cause, by the rows in force then.
+    /// Notes what holds after an act of this source and cause, or behind a step of a port that does none, by the rows in
+    /// force then.
     pub fn note_act<R: Rows>(&mut self, rows: &R, source: Source, cause: Cause)
         ensures { (o : Origin) (s : Sourced) (past : List Sourced) → s.source ≡ source
-            → cause_of s.act ≡ cause
+            → cause_at s.act ≡ cause
             → R.look_up rows.now ≡ in_force o (log o (bare_acts (s ∷ past)))
             → Recounts self.old o past → Recounts self.new o (s ∷ past) }
     {
@@ -145,13 +146,14 @@ impl Chronicle {
         &self,
         alloc: Global,
         text: &mut Vec<u8>,
+        counted: Counted,
         condition: Condition,
     ) -> Result<(), AllocError>
         ensures { OnOk result (text.new.items
-            ≡ text.old.items ++ reason_text condition (kept_onset self.now condition)) }
+            ≡ text.old.items ++ reason_text counted condition (kept_onset self.now condition)) }
     {
         if condition.has_range() {
-            append_line(alloc, text, condition, self.since(condition))?;
+            append_line(alloc, text, counted, condition, self.since(condition))?;
         }
         Ok(())
     }
@@ -161,13 +163,14 @@ impl Chronicle {
         &self,
         alloc: Global,
         text: &mut Vec<u8>,
+        counted: Counted,
         conditions: &[Condition],
     ) -> Result<(), AllocError>
         ensures { OnOk result (text.new.items
-            ≡ text.old.items ++ reasons_text (kept_onset self.now) conditions.now) }
+            ≡ text.old.items ++ reasons_text counted (kept_onset self.now) conditions.now) }
     {
         for condition in conditions {
-            self.append_reason(alloc, text, *condition)?;
+            self.append_reason(alloc, text, counted, *condition)?;
         }
         Ok(())
     }
@@ -175,16 +178,22 @@ impl Chronicle {
     fn explanation<R: Rows>(
         &self,
         alloc: Global,
+        counted: Counted,
         rows: &R,
         why: &Why,
     ) -> Result<Vec<u8>, AllocError>
         ensures { IfOk result (λ text. text.items
-            ≡ explanation_text (kept_onset self.now) (kept_place self.now) (R.profile_of rows.now)
+            ≡ told_since counted (kept_onset self.now) (kept_place self.now) (R.profile_of rows.now)
             (R.look_up rows.now) why.now) }
     {
         let mut text = Vec::new(alloc);
         let place = self.place(range_named(why));
-        self.append_reasons(alloc, &mut text, conditions_of(why, place).as_slice())?;
+        self.append_reasons(
+            alloc,
+            &mut text,
+            counted,
+            conditions_of(why, place).as_slice(),
+        )?;
         let remedy = remedy_bytes(alloc, rows, why)?;
         text.extend_from_slice(&remedy)?;
         text.extend_from_slice(b"\n")?;
@@ -192,12 +201,34 @@ impl Chronicle {
     }
 
     /// The lines that say of a denial since when each condition that it rests on has been in force, and what would lift
-    /// it by the rows in force, each with its line feed.
+    /// it by the rows in force, each with its line feed: since which act of a drive, or since which step of a port.
     ///
     /// # Errors
     ///
     /// An allocation was refused.
     #[tactic(auto, using(crate::proofs::explained::Keeping::same_explanation))]
+    pub fn explain_by<R: Rows>(
+        &self,
+        alloc: Global,
+        counted: Counted,
+        rows: &R,
+        why: &Why,
+    ) -> Result<Vec<u8>, AllocError>
+        ensures { IfOk result (λ text. (o : Origin) (past : List Sourced)
+            → Recounts self.now o past → text.items
+            ≡ told_since counted (λ c. held_since (holds_after o c) past)
+            (range_place (in_force o (log o (bare_acts past))))
+            (R.profile_of rows.now) (R.look_up rows.now) why.now) }
+    {
+        let text = self.explanation(alloc, counted, rows, why)?;
+        Ok(text)
+    }
+
+    /// The same, since which act of a drive.
+    ///
+    /// # Errors
+    ///
+    /// An allocation was refused.
     pub fn explain<R: Rows>(
         &self,
         alloc: Global,
@@ -210,7 +241,7 @@ impl Chronicle {
             (range_place (in_force o (log o (bare_acts past))))
             (R.profile_of rows.now) (R.look_up rows.now) why.now) }
     {
-        let text = self.explanation(alloc, rows, why)?;
+        let text = self.explain_by(alloc, Counted::Acts, rows, why)?;
         Ok(text)
     }
 }

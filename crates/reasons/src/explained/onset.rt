@@ -38,11 +38,20 @@ pub enum Cause {
     NoCause,
 }
 
+/// What the numbers of onsets count.
+#[derive(Clone, Copy, Debug, PartialEq, Eq)]
+pub enum Counted {
+    /// The acts of a drive.
+    Acts,
+    /// The steps of a port.
+    Steps,
+}
+
 /// Since when something holds without a break.
 #[derive(Clone, Copy, Debug, PartialEq, Eq)]
 pub enum Onset {
     AtOpening,
-    /// The act of this number, counted from 1.
+    /// The act of this number, counted from 1; behind a port the step.
     AtAct {
         number: u64,
         source: Source,

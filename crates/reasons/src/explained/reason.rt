@@ -3,10 +3,10 @@
 ghost use Rattle.std.specs.Prelude.{◌≡◌, ◌++◌, OnOk, codes, decimal};
 ghost use Rattle.reasons.specs.declared.explained.condition.Condition.TheVariants.{Shadow};
 ghost use Rattle.reasons.specs.declared.explained.onset.Onset.TheVariants.{AtOpening};
-ghost use Rattle.reasons.specs.Reasons.{worded_number, set_cell_text, not_done_text, range_number_text, place_text, condition_text, reset_column_text, reset_kind_text, client_text, cause_text, onset_text, line_since};
+ghost use Rattle.reasons.specs.Reasons.{worded_number, set_cell_text, not_done_text, range_number_text, place_text, condition_text, reset_column_text, reset_kind_text, client_text, cause_text, counted_words, onset_text, line_since};
 
 use crate::explained::condition::{Condition, Place};
-use crate::explained::onset::{Cause, Onset, Source};
+use crate::explained::onset::{Cause, Counted, Onset, Source};
 use crate::remedies::{append_column_name, append_object_name};
 use basics::append_decimal;
 use sp_cells::{Column, Uid};
@@ -14,7 +14,7 @@ use std::alloc::{AllocError, Global};
 
 /// Appends words, and a number in decimal behind them.
 #[tactic(auto, unfolding(crate::specs::Reasons::worded_number))]
-fn append_number(
+pub(crate) fn append_number(
     alloc: Global,
     text: &mut Vec<u8>,
     words: &[u8],
@@ -85,7 +85,7 @@ fn append_range_number(
 
 /// Appends where a range lies.
 #[tactic(auto, unfolding(crate::specs::Reasons::place_text))]
-fn append_place(
+pub(crate) fn append_place(
     alloc: Global,
     text: &mut Vec<u8>,
     range: u8,
@@ -144,7 +144,7 @@ fn append_reset_column(
 }
 
 /// The kind of a reset in words.
-fn reset_kind(kind: u8) -> &'static [u8]
+pub(crate) fn reset_kind(kind: u8) -> &'static [u8]
     ensures { result.now ≡ reset_kind_text kind }
 {
     match kind {
@@ -156,7 +156,7 @@ fn reset_kind(kind: u8) -> &'static [u8]
 
 /// Appends who did it.
 #[tactic(auto, unfolding(crate::specs::Reasons::client_text))]
-fn append_client(
+pub(crate) fn append_client(
     alloc: Global,
     text: &mut Vec<u8>,
     source: Source,
@@ -227,15 +227,26 @@ fn append_cause(
     Ok(())
 }
 
+/// What is counted, in a word.
+pub(crate) fn counted_word(counted: Counted) -> &'static [u8]
+    ensures { result.now ≡ counted_words counted }
+{
+    match counted {
+        Counted::Acts => b"act ",
+        Counted::Steps => b"step ",
+    }
+}
+
 /// Appends that a condition holds from the opening on.
 #[tactic(auto, unfolding(crate::specs::Reasons::onset_text))]
 fn append_at_opening(
     alloc: Global,
     text: &mut Vec<u8>,
+    counted: Counted,
     condition: Condition,
 ) -> Result<(), AllocError>
     ensures { OnOk result
-        (text.new.items ≡ text.old.items ++ onset_text condition AtOpening) }
+        (text.new.items ≡ text.old.items ++ onset_text counted condition AtOpening) }
 {
     text.extend_from_slice(b"the opening: ")?;
     append_condition(alloc, text, condition)?;
@@ -247,19 +258,20 @@ fn append_at_opening(
 fn append_onset(
     alloc: Global,
     text: &mut Vec<u8>,
+    counted: Counted,
     condition: Condition,
     onset: Onset,
 ) -> Result<(), AllocError>
-    ensures { OnOk result (text.new.items ≡ text.old.items ++ onset_text condition onset) }
+    ensures { OnOk result (text.new.items ≡ text.old.items ++ onset_text counted condition onset) }
 {
     match onset {
-        Onset::AtOpening => append_at_opening(alloc, text, condition)?,
+        Onset::AtOpening => append_at_opening(alloc, text, counted, condition)?,
         Onset::AtAct {
             number,
             source,
             cause,
         } => {
-            append_number(alloc, text, b"act ", number)?;
+            append_number(alloc, text, counted_word(counted), number)?;
             text.extend_from_slice(b": ")?;
             append_cause(alloc, text, condition, source, cause)?;
             append_number(alloc, text, b", line ", source.line)?;
@@ -272,14 +284,15 @@ fn append_onset(
 pub(crate) fn append_line(
     alloc: Global,
     text: &mut Vec<u8>,
+    counted: Counted,
     condition: Condition,
     onset: Option<Onset>,
 ) -> Result<(), AllocError>
-    ensures { OnOk result (text.new.items ≡ text.old.items ++ line_since condition onset) }
+    ensures { OnOk result (text.new.items ≡ text.old.items ++ line_since counted condition onset) }
 {
     if let Some(onset) = onset {
         text.extend_from_slice(b"because ")?;
-        append_onset(alloc, text, condition, onset)?;
+        append_onset(alloc, text, counted, condition, onset)?;
         text.extend_from_slice(b"\n")?;
     }
     Ok(())

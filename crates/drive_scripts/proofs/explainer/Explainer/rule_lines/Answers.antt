@@ -1,22 +1,14 @@
-use Rattle.std.proofs.Common.{◌∙◌, ap}
-use Rattle.std.specs.Prelude.{Option}
-use Rattle.basics.specs.declared.profile.Profile.{Profile}
-use Rattle.sp_cells.specs.Config.{Config}
-use Rattle.sp_cells.specs.Flat.{LookUp}
-use Rattle.transactions.specs.Sights.{Sight, look_up}
-use Rattle.trusted_cmds.specs.declared.command.Command.{Command}
+use Rattle.std.proofs.Common.{◌∙◌, ◌++◌, List, ℕ, ap}
 use Rattle.history.specs.History.{log}
 use Rattle.history.specs.Readers.{in_force}
-use Rattle.reasons.specs.Rulings.{ruled_text}
+use Rattle.reasons.specs.Lives.{life_of}
+use Rattle.reasons.specs.Details.{details_text}
+use Rattle.drive_scripts.specs.Explanations.{seen_after}
 use Rattle.drive_scripts.proofs.explainer.Explainer.rule_lines.Goals as goal
 
 pub returns : goal.returns
-returns c = λ o acts agrees.
-    let command = c.command_in.result in
-    let rule = c.args.rule in
-    c.in_ok-text.ensures
-    ∙ ap (λ (p : Profile). ruled_text p (look_up c.in_force.result) command rule)
-    (ap (λ (s : Sight). s.config.profile) c.in_force.ensures.stands ∙ ap (λ (k : Config). k.profile) agrees.tper.store.config)
-    ∙ ap (λ (rows : LookUp). ruled_text o.tables.config.profile rows command rule)
-    (c.in_force.ensures.told o acts agrees)
-    ∙ ap (λ (asked : Option Command). ruled_text o.tables.config.profile (in_force o (log o acts)) asked rule) c.command_in.ensures
+returns c = λ o past acts agrees kept.
+    c.in_ok-extend_from_slice.ensures.items
+    ∙ ap (λ (l : List ℕ). c.in_ok-text.text.items ++ l) (c.deref.ensures.value ∙ c.in_ok-details.ensures o past acts agrees kept)
+    ∙ ap (λ (l : List ℕ). l ++ details_text c.args.counted (seen_after o acts) (life_of o past) c.args.payload.now c.args.rule)
+    (c.in_ok-text.ensures o acts agrees)

@@ -2,7 +2,7 @@ use Rattle.std.proofs.Common.{subst, sym, ap, ◌∙◌, ◌∷◌}
 use Rattle.history.specs.History.{Reset}
 use Rattle.history.specs.Resets.{reset_kind_number}
 use Rattle.drive.specs.State.{Agrees}
-use Rattle.reasons.specs.Chronicles.{Recounts}
+use Rattle.drive_scripts.specs.Kept.{RecountsAll}
 use Rattle.drive_scripts.specs.Explanations.{attributed}
 use Rattle.reasons.specs.Onsets.{bare_acts}
 use Rattle.drive_scripts.specs.Effects.{Acted}
@@ -24,7 +24,7 @@ returns-in-Reset c = λ o past acts runs acted kept.
     let is = subst (λ line. Acted line c.args.self.now o (bare_acts past) acts) c.in-Reset.is acted in
     explains-reset c.args.source o past acts _ c.note_reset.new.self c.args.report.now is
     (subst
-    (λ kind. Recounts c.note_reset.new.self o
+    (λ kind. RecountsAll c.note_reset.new.self o
     (attributed c.args.source (Reset (reset_kind_number kind) ∷ bare_acts past) past))
     c.kind_named.ensures
     (c.note_reset.ensures o past

@@ -1,0 +1,2 @@
+mod Mets
+mod Values

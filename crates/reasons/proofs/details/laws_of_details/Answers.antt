@@ -1,0 +1,11 @@
+use Rattle.reasons.proofs.details.DetailLaws.{starts, met, long}
+use Rattle.reasons.proofs.details.laws_of_details.Goals as goal
+
+pub returns-clause-starts : goal.returns-clause-starts
+returns-clause-starts c = starts
+
+pub returns-clause-met : goal.returns-clause-met
+returns-clause-met c = met
+
+pub returns-clause-long : goal.returns-clause-long
+returns-clause-long c = long
