@@ -130,6 +130,28 @@ row_locked : audit (trace enabled (Accept 0 ∷ Issue 0 ∷ Put 1 0 (Read 100 1)
 unfolding enabled stopped read_again ranges_in admin_sps admin_authorities locking_authorities admin_pins locking_pins locking_ranges locking_mbr_controls admin_aces authority_aces pin_aces range_get_aces range_aces mbr_aces authorities_of_locking verdict_of any_below zeros is_range
 row_locked = refl
 
+-- PxTFD (AHCI 1.3.1, 3.3.8): the failed read leaves 51h and 04h. Behind a reset the device is ready, with
+-- no error (ACS-3, Status and Error fields), whatever was before.
+row_failed_status : (registers (trace locked fails)).status ≡ 0x51
+unfolding locked fails ranges_in admin_sps admin_authorities locking_authorities admin_pins locking_pins locking_ranges locking_mbr_controls admin_aces authority_aces pin_aces range_get_aces range_aces mbr_aces authorities_of_locking verdict_of any_below zeros is_range
+row_failed_status = refl
+
+row_failed_error : (registers (trace locked fails)).error ≡ 0x04
+unfolding locked fails ranges_in admin_sps admin_authorities locking_authorities admin_pins locking_pins locking_ranges locking_mbr_controls admin_aces authority_aces pin_aces range_get_aces range_aces mbr_aces authorities_of_locking verdict_of any_below zeros is_range
+row_failed_error = refl
+
+row_reset_status : (registers (trace locked (Reset 1 Hardware ∷ fails))).status ≡ 0x50
+unfolding locked fails ranges_in admin_sps admin_authorities locking_authorities admin_pins locking_pins locking_ranges locking_mbr_controls admin_aces authority_aces pin_aces range_get_aces range_aces mbr_aces authorities_of_locking verdict_of any_below zeros is_range
+row_reset_status = refl
+
+row_reset_error : (registers (trace locked (Reset 1 Hardware ∷ fails))).error ≡ 0
+unfolding locked fails ranges_in admin_sps admin_authorities locking_authorities admin_pins locking_pins locking_ranges locking_mbr_controls admin_aces authority_aces pin_aces range_get_aces range_aces mbr_aces authorities_of_locking verdict_of any_below zeros is_range
+row_reset_error = refl
+
+row_ready_status : (registers (trace enabled stopped)).status ≡ 0x50
+unfolding enabled stopped ranges_in admin_sps admin_authorities locking_authorities admin_pins locking_pins locking_ranges locking_mbr_controls admin_aces authority_aces pin_aces range_get_aces range_aces mbr_aces authorities_of_locking verdict_of any_below zeros is_range
+row_ready_status = refl
+
 row_lawful_reset : are_lawful enabled (Accept 0 ∷ Issue 0 ∷ Put 1 0 (Read 100 1) ∷ Reset 1 Power
     ∷ Take 1 0 ∷ read_again) ≡ true
 unfolding are_lawful enabled stopped read_again ranges_in admin_sps admin_authorities locking_authorities admin_pins locking_pins locking_ranges locking_mbr_controls admin_aces authority_aces pin_aces range_get_aces range_aces mbr_aces authorities_of_locking verdict_of any_below zeros is_range
