@@ -100,8 +100,8 @@ class OnADrive(unittest.TestCase):
         self.refuses(Code.NOT_OPEN, self.drive.denial)
 
     def test_a_field_drive_has_commands_of_28_bits(self):
-        def short(command, device=0x40, count=1):
-            return bytes([0x27, 0x80, command, 0, 5, 0, 0, device, 0, 0, 0, 0, count, 0, 0, 0, 0, 0, 0, 0])
+        def short(command, feature=0, device=0x40, count=1):
+            return bytes([0x27, 0x80, command, feature, 5, 0, 0, device, 0, 0, 0, 0, count, 0, 0, 0, 0, 0, 0, 0])
         with Drive(field=True) as drive:
             self.assertEqual(drive.payload_length(short(0xCA, count=0)), 256 * SECTOR)
             self.assertEqual(drive.accept(short(0xCA), b"\x5a" * SECTOR).status, 0x50)
@@ -110,8 +110,10 @@ class OnADrive(unittest.TestCase):
             for fis in (short(0xC8, device=0), short(0xCA, device=0)):
                 answer = drive.accept(fis, bytes(drive.payload_length(fis)))
                 self.assertEqual((answer.status, answer.error, answer.denied), (0x51, 0x04, False))
-            for command in (0xE7, 0xEF):
-                self.assertEqual(drive.accept(short(command)).status, 0x50)
+            for fis in (short(0xE7), short(0xEF, feature=0x03, count=0x46)):
+                self.assertEqual(drive.accept(fis).status, 0x50)
+            answer = drive.accept(short(0xEF))
+            self.assertEqual((answer.status, answer.error, answer.denied), (0x51, 0x04, False))
         for command in (0xC8, 0xCA, 0xE7, 0xEF):
             answer = self.drive.accept(short(command), bytes(self.drive.payload_length(short(command))))
             self.assertEqual((answer.status, answer.error, answer.denied), (0x51, 0x04, False))
