@@ -8,6 +8,7 @@ use Rattle.fis.specs.Types.{h2d_length}
 use Rattle.fis.specs.declared.any.Fis.{Fis}
 use Rattle.audit.specs.declared.reason.Why.{Why}
 use Rattle.history.specs.Answers.{expected, payload_of}
+use Rattle.history.specs.Events.{Event}
 use Rattle.history.specs.History.{Act, Accept, Complete}
 use Rattle.history.specs.Opening.{Origin}
 use Rattle.drive.specs.Queue.{held_at}
@@ -25,12 +26,15 @@ use Rattle.hba.specs.declared.registers.Registers.{Registers}
 use Rattle.hba.specs.declared.work.Work.{Work}
 use Rattle.hba.specs.declared.work.Work.TheVariants as works
 use Rattle.hba.specs.declared.work.Done.{Done}
+use Rattle.hba.specs.declared.work.Heard.{Heard}
+use Rattle.hba.specs.declared.work.Turned.{Turned}
+use Rattle.hba.specs.declared.work.TurnedHeard.{TurnedHeard}
 use Rattle.hba.specs.declared.work.Outcome.{Outcome}
 use Rattle.hba.specs.declared.work.Done.TheVariants as dones
 use Rattle.hba.specs.Showing.{fault_of, arrived, fetching}
-use Rattle.hba.specs.History.{Operation, Signed, Missed, Fetched, Completed, Account, State, HasActed, AgreesHba, Adds, account, acts_of, regs_of, effect_after, operation_denied}
+use Rattle.hba.specs.History.{Operation, Wrote, Powered, Signed, Missed, Controlled, Asserted, Restarted, Unheard, Fetched, Completed, Account, State, HasActed, AgreesHba, Adds, account, acts_of, regs_of, effect_after, IsDenied, IsHeard, IsHeardOf, denied_in}
 use Rattle.hba.specs.Ready.{ready_on, picked}
-use Rattle.hba.specs.Engine.{header_at, fises_at, place_of, IsEffect, ServesSo, Executes, Controls, HearsIf, FetchesIf, FetchesFis, FetchesFrom, Fetches, CompletesFrom, Completes, Signs, signature_fis, IsWork, done_of, TurnsAs, TurnsBy, HasRun, Runs, HasStopped}
+use Rattle.hba.specs.Engine.{header_at, fises_at, place_of, IsEffect, ServesSo, Executes, Controls, HearsIf, FetchesIf, FetchesFis, FetchesFrom, Fetches, CompletesFrom, Completes, Signs, signature_fis, IsWork, done_of, TurnsAs, TurnsBy, TurnsTo, HearsTo, HasRun, Runs, HasStopped}
 use Rattle.hba.proofs.Works.{ready_same}
 
 -- The account of a list, with the registers of an HBA that agrees with it.
@@ -45,41 +49,90 @@ same_account hba o list a =
 -- One access more, in front of a turn.
 pub turn_behind : {M : Type 0} (does : M → Access → M → Type 0)
     (First Next : Origin → Account → List Access → Operation → Type 0)
-    (old : State) (before middle : M) (new : State) (after : M) (done : Done) (denied : Option Why)
+    (old : State) (before middle : M) (new : State) (after : M) (done : Done) (heard : Option Heard)
     (access : Access) → IsAccess does before access middle
     → ((o : Origin) (list : List Operation) → AgreesHba old o list → (talk : List Access)
     (operation : Operation) → Next o (account o list) talk operation
     → First o (account o list) (access ∷ talk) operation)
-    → TurnsAs does Next old middle new after done denied
-    → TurnsAs does First old before new after done denied
-turn_behind does First Next old before middle new after done denied access answers step t = (
+    → TurnsAs does Next old middle new after done (IsHeard heard)
+    → TurnsAs does First old before new after done (IsHeard heard)
+turn_behind does First Next old before middle new after done heard access answers step t = (
   access ∷ t.0,
   t.1,
   (middle, answers, t.2),
   t.3,
   λ o list a.
       let h = t.4 o list a in
-      record { did = step o list a t.0 t.1 h.did; agrees = h.agrees; denied = h.denied },
+      record { did = step o list a t.0 t.1 h.did; agrees = h.agrees; told = h.told },
 )
 
 -- Another name for what was done.
 pub turn_named : {M : Type 0} (does : M → Access → M → Type 0)
     (First Next : Origin → Account → List Access → Operation → Type 0)
-    (old : State) (before : M) (new : State) (after : M) (done : Done) (denied : Option Why)
+    (old : State) (before : M) (new : State) (after : M) (done : Done) (heard : Option Heard)
     → ((o : Origin) (list : List Operation) → AgreesHba old o list → (talk : List Access)
     (operation : Operation) → Next o (account o list) talk operation
     → First o (account o list) talk operation)
-    → TurnsAs does Next old before new after done denied
-    → TurnsAs does First old before new after done denied
-turn_named does First Next old before new after done denied step t = (
+    → TurnsAs does Next old before new after done (IsHeard heard)
+    → TurnsAs does First old before new after done (IsHeard heard)
+turn_named does First Next old before new after done heard step t = (
   t.0,
   t.1,
   t.2,
   t.3,
   λ o list a.
       let h = t.4 o list a in
-      record { did = step o list a t.0 t.1 h.did; agrees = h.agrees; denied = h.denied },
+      record { did = step o list a t.0 t.1 h.did; agrees = h.agrees; told = h.told },
 )
+
+-- Less is told of what was done.
+pub turn_less : {M : Type 0} (does : M → Access → M → Type 0)
+    (Did : Origin → Account → List Access → Operation → Type 0) (old : State) (before : M) (new : State)
+    (after : M) (done : Done) (Told Less : Origin → Account → Operation → Type 0)
+    → ((o : Origin) (a : Account) (operation : Operation) → Told o a operation → Less o a operation)
+    → TurnsAs does Did old before new after done Told
+    → TurnsAs does Did old before new after done Less
+turn_less does Did old before new after done Told Less step t = (
+  t.0,
+  t.1,
+  t.2,
+  t.3,
+  λ o list a.
+      let h = t.4 o list a in
+      record { did = h.did; agrees = h.agrees; told = step o (account o list) t.1 h.told },
+)
+
+denied_of : (heard : Option Heard) (fis payload : List ℕ) (event : Event) → IsHeardOf heard fis payload event
+    → denied_in heard ≡ event.denied
+denied_of None fis payload event h = absurd h
+denied_of (Some heard) fis payload event h = h.denied
+
+denied_so : (heard : Option Heard) (o : Origin) (a : Account) (operation : Operation)
+    → IsHeard heard o a operation → IsDenied (denied_in heard) o a operation
+denied_so heard o a (Fetched tag fis payload arrival) h =
+    denied_of heard fis payload (effect_after o a (Accept fis payload)).event h
+denied_so heard o a (Wrote offset value) h = ap denied_in h
+denied_so heard o a Powered h = ap denied_in h
+denied_so heard o a Signed h = ap denied_in h
+denied_so heard o a (Missed fetched miss) h = ap denied_in h
+denied_so heard o a (Controlled tag) h = ap denied_in h
+denied_so heard o a (Asserted tag) h = ap denied_in h
+denied_so heard o a (Restarted tag) h = ap denied_in h
+denied_so heard o a (Unheard tag) h = ap denied_in h
+denied_so heard o a (Completed tag payload arrival) h = ap denied_in h
+
+-- Of a command that is told, what denied it.
+pub turn_denied : {M : Type 0} (does : M → Access → M → Type 0) (old : State) (before : M) (new last : State)
+    (after : M) (turned : TurnedHeard) (less : Turned) → last ≡ new → less.work ≡ turned.work
+    → less.done ≡ turned.done → less.denied ≡ denied_in turned.heard
+    → HearsTo does old before new after turned → TurnsTo does old before last after less
+turn_denied does old before new last after turned less e w d n t =
+    subst (λ (s : State). TurnsTo does old before s after less) (sym e)
+    (subst (λ (work : Work). TurnsBy does work old before new after less.done (IsDenied less.denied)) (sym w)
+    (subst (λ (done : Done). TurnsBy does turned.work old before new after done (IsDenied less.denied)) (sym d)
+    (subst (λ (why : Option Why). TurnsBy does turned.work old before new after turned.done (IsDenied why)) (sym n)
+    (turn_less does (IsWork turned.work) old before new after turned.done (IsHeard turned.heard)
+    (IsDenied (denied_in turned.heard)) (denied_so turned.heard) t))))
 
 -- Nothing more is asked.
 pub turn_missed : {M : Type 0} (does : M → Access → M → Type 0)
@@ -88,13 +141,13 @@ pub turn_missed : {M : Type 0} (does : M → Access → M → Type 0)
     → ((o : Origin) (list : List Operation) → AgreesHba old o list
     → Did o (account o list) [] (Missed fetched miss))
     → Adds (Missed fetched miss) old new
-    → TurnsAs does Did old now new now (dones.Fault (fault_of miss)) None
+    → TurnsAs does Did old now new now (dones.Fault (fault_of miss)) (IsHeard None)
 turn_missed does Did old now new fetched miss did adds = (
   [],
   Missed fetched miss,
   refl,
   refl,
-  λ o list a. record { did = did o list a; agrees = adds o list a; denied = refl },
+  λ o list a. record { did = did o list a; agrees = adds o list a; told = refl },
 )
 
 -- A FIS of which memory is asked nothing more.
@@ -102,17 +155,17 @@ pub turn_told : {M : Type 0} (does : M → Access → M → Type 0)
     (Did : Origin → Account → List Access → Operation → Type 0) (old : State) (now : M)
     (new : State) (operation : Operation)
     → done_of operation ≡ Some dones.Control
-    → ((o : Origin) (list : List Operation) → operation_denied o (account o list) operation ≡ None)
+    → ((o : Origin) (list : List Operation) → IsHeard None o (account o list) operation)
     → ((o : Origin) (list : List Operation) → AgreesHba old o list
     → Did o (account o list) [] operation)
     → Adds operation old new
-    → TurnsAs does Did old now new now dones.Control None
+    → TurnsAs does Did old now new now dones.Control (IsHeard None)
 turn_told does Did old now new operation told none did adds = (
   [],
   operation,
   refl,
   told,
-  λ o list a. record { did = did o list a; agrees = adds o list a; denied = sym (none o list) },
+  λ o list a. record { did = did o list a; agrees = adds o list a; told = none o list },
 )
 
 -- What comes with a command, so far as memory has it.
@@ -141,7 +194,7 @@ pub serves_missed : {M : Type 0} (does : M → Access → M → Type 0) (place :
     (new : State) (after : M) (miss : Miss) → Brought does place n before after (Err miss)
     → Adds (Missed fetched miss) old new
     → TurnsAs does (λ o a. ServesSo o a place n fetched act operation) old before new after
-    (dones.Fault (fault_of miss)) None
+    (dones.Fault (fault_of miss)) (IsHeard None)
 serves_missed does place n fetched act operation old before new after miss g adds = (
   g.0,
   Missed fetched miss,
@@ -150,7 +203,7 @@ serves_missed does place n fetched act operation old before new after miss g add
   λ o list a. record {
     did = (g.0, [], Err miss, sym (append-nil g.0), g.2, (refl, refl));
     agrees = adds o list a;
-    denied = refl;
+    told = refl;
   },
 )
 
@@ -171,7 +224,7 @@ delivers_effect o a act place moved fises bytes talk arrival e h =
 pub serves_done : {M : Type 0} (does : M → Access → M → Type 0) (place : Place) (n : ℕ)
     (fetched : Option ℕ) (act : List ℕ → Act) (operation : List ℕ → Arrival → Operation) (old : State)
     (before middle : M) (new : State) (after : M) (payload : List ℕ) (fises : List Fis)
-    (bytes : List ℕ) (moved : Moved) (arrival : Arrival) (done : Done) (denied : Option Why)
+    (bytes : List ℕ) (moved : Moved) (arrival : Arrival) (done : Done) (heard : Option Heard)
     → BroughtBy does place n before middle (Ok payload) moved
     → Delivered does place moved fises bytes middle after arrival
     → done_of (operation payload arrival) ≡ Some done
@@ -179,9 +232,9 @@ pub serves_done : {M : Type 0} (does : M → Access → M → Type 0) (place : P
     → IsEffect (effect_after o (account o list) (act payload)) fises bytes)
     → Adds (operation payload arrival) old new
     → ((o : Origin) (list : List Operation) → AgreesHba old o list
-    → denied ≡ operation_denied o (account o list) (operation payload arrival))
-    → TurnsAs does (λ o a. ServesSo o a place n fetched act operation) old before new after done denied
-serves_done does place n fetched act operation old before middle new after payload fises bytes moved arrival done denied g d told gives adds denies = (
+    → IsHeard heard o (account o list) (operation payload arrival))
+    → TurnsAs does (λ o a. ServesSo o a place n fetched act operation) old before new after done (IsHeard heard)
+serves_done does place n fetched act operation old before middle new after payload fises bytes moved arrival done heard g d told gives adds says = (
   g.0 ++ d.0,
   operation payload arrival,
   accessed_append does before middle after g.0 d.0 g.1 d.1,
@@ -201,7 +254,7 @@ serves_done does place n fetched act operation old before middle new after paylo
       ),
     );
     agrees = adds o list a;
-    denied = denies o list a;
+    told = says o list a;
   },
 )
 
@@ -244,13 +297,13 @@ adds_completed old acted new tag payload fises bytes arrival has gives e = λ o 
 
 -- The header is read.
 pub fetch_header : {M : Type 0} (does : M → Access → M → Type 0) (old : State) (before middle : M)
-    (new : State) (after : M) (done : Done) (denied : Option Why) (tag : ℕ)
+    (new : State) (after : M) (done : Done) (heard : Option Heard) (tag : ℕ)
     (answer : Option (List ℕ)) (read : Result Header Miss) → header_by answer ≡ read
     → IsAccess does before (Asked (header_at old.registers tag) header_size answer) middle
-    → TurnsAs does (λ o a. FetchesFrom o a tag read) old middle new after done denied
-    → TurnsAs does (λ o a. Fetches o a tag) old before new after done denied
-fetch_header does old before middle new after done denied tag answer read e answers t =
-    turn_behind does (λ o a. Fetches o a tag) (λ o a. FetchesFrom o a tag read) old before middle new after done denied
+    → TurnsAs does (λ o a. FetchesFrom o a tag read) old middle new after done (IsHeard heard)
+    → TurnsAs does (λ o a. Fetches o a tag) old before new after done (IsHeard heard)
+fetch_header does old before middle new after done heard tag answer read e answers t =
+    turn_behind does (λ o a. Fetches o a tag) (λ o a. FetchesFrom o a tag read) old before middle new after done heard
     (Asked (header_at old.registers tag) header_size answer) answers
     (λ o list a talk operation h. (
       answer,
@@ -260,13 +313,13 @@ fetch_header does old before middle new after done denied tag answer read e answ
     )) t
 
 pub complete_header : {M : Type 0} (does : M → Access → M → Type 0) (old : State) (before middle : M)
-    (new : State) (after : M) (done : Done) (denied : Option Why) (tag n : ℕ)
+    (new : State) (after : M) (done : Done) (heard : Option Heard) (tag n : ℕ)
     (answer : Option (List ℕ)) (read : Result Header Miss) → header_by answer ≡ read
     → IsAccess does before (Asked (header_at old.registers tag) header_size answer) middle
-    → TurnsAs does (λ o a. CompletesFrom o a tag n read) old middle new after done denied
-    → TurnsAs does (λ o a. Completes o a tag n) old before new after done denied
-complete_header does old before middle new after done denied tag n answer read e answers t =
-    turn_behind does (λ o a. Completes o a tag n) (λ o a. CompletesFrom o a tag n read) old before middle new after done denied
+    → TurnsAs does (λ o a. CompletesFrom o a tag n read) old middle new after done (IsHeard heard)
+    → TurnsAs does (λ o a. Completes o a tag n) old before new after done (IsHeard heard)
+complete_header does old before middle new after done heard tag n answer read e answers t =
+    turn_behind does (λ o a. Completes o a tag n) (λ o a. CompletesFrom o a tag n read) old before middle new after done heard
     (Asked (header_at old.registers tag) header_size answer) answers
     (λ o list a talk operation h. (
       answer,
@@ -277,38 +330,38 @@ complete_header does old before middle new after done denied tag n answer read e
 
 -- The FIS is read.
 pub fetch_fis : {M : Type 0} (does : M → Access → M → Type 0) (old : State) (before middle : M)
-    (new : State) (after : M) (done : Done) (denied : Option Why) (tag : ℕ) (header : Header)
+    (new : State) (after : M) (done : Done) (heard : Option Heard) (tag : ℕ) (header : Header)
     (fis : Option (List ℕ)) → IsAccess does before (Asked header.table h2d_length fis) middle
-    → TurnsAs does (λ o a. FetchesFis o a (place_of a.registers tag header) tag fis) old middle new after done denied
-    → TurnsAs does (λ o a. FetchesFrom o a tag (Ok header)) old before new after done denied
-fetch_fis does old before middle new after done denied tag header fis answers t =
+    → TurnsAs does (λ o a. FetchesFis o a (place_of a.registers tag header) tag fis) old middle new after done (IsHeard heard)
+    → TurnsAs does (λ o a. FetchesFrom o a tag (Ok header)) old before new after done (IsHeard heard)
+fetch_fis does old before middle new after done heard tag header fis answers t =
     turn_behind does (λ o a. FetchesFrom o a tag (Ok header))
-    (λ o a. FetchesFis o a (place_of a.registers tag header) tag fis) old before middle new after done denied
+    (λ o a. FetchesFis o a (place_of a.registers tag header) tag fis) old before middle new after done heard
     (Asked header.table h2d_length fis) answers (λ o list a talk operation h. (fis, talk, refl, h)) t
 
 pub fetch_control : {M : Type 0} (does : M → Access → M → Type 0) (old : State) (before : M)
-    (new : State) (after : M) (done : Done) (denied : Option Why) (tag : ℕ) (header : Header)
+    (new : State) (after : M) (done : Done) (heard : Option Heard) (tag : ℕ) (header : Header)
     (fis : List ℕ) → is_command fis ≡ false
-    → TurnsAs does (λ o a. Controls a tag fis) old before new after done denied
+    → TurnsAs does (λ o a. Controls a tag fis) old before new after done (IsHeard heard)
     → TurnsAs does (λ o a. FetchesFis o a (place_of a.registers tag header) tag (Some fis)) old before new after
-    done denied
-fetch_control does old before new after done denied tag header fis e t =
+    done (IsHeard heard)
+fetch_control does old before new after done heard tag header fis e t =
     turn_named does (λ o a. FetchesFis o a (place_of a.registers tag header) tag (Some fis))
-    (λ o a. Controls a tag fis) old before new after done denied
+    (λ o a. Controls a tag fis) old before new after done heard
     (λ o list a talk operation h.
     subst (λ (b : Bool). FetchesIf b o (account o list) (place_of (regs_of o list) tag header) tag fis talk operation)
     (sym e) h) t
 
 pub fetch_hears : {M : Type 0} (does : M → Access → M → Type 0) (old : State) (before : M)
-    (new : State) (after : M) (done : Done) (denied : Option Why) (tag : ℕ) (header : Header)
+    (new : State) (after : M) (done : Done) (heard : Option Heard) (tag : ℕ) (header : Header)
     (fis : List ℕ) (place : Place) → is_command fis ≡ true
     → place ≡ place_of old.registers tag header
-    → TurnsAs does (λ o a. HearsIf a.registers.in_reset o a place tag fis) old before new after done denied
+    → TurnsAs does (λ o a. HearsIf a.registers.in_reset o a place tag fis) old before new after done (IsHeard heard)
     → TurnsAs does (λ o a. FetchesFis o a (place_of a.registers tag header) tag (Some fis)) old before new after
-    done denied
-fetch_hears does old before new after done denied tag header fis place e p t =
+    done (IsHeard heard)
+fetch_hears does old before new after done heard tag header fis place e p t =
     turn_named does (λ o a. FetchesFis o a (place_of a.registers tag header) tag (Some fis))
-    (λ o a. HearsIf a.registers.in_reset o a place tag fis) old before new after done denied
+    (λ o a. HearsIf a.registers.in_reset o a place tag fis) old before new after done heard
     (λ o list a talk operation h.
     let same : place ≡ place_of (regs_of o list) tag header =
     p ∙ ap (λ (r : Registers). place_of r tag header) a.registers in
@@ -316,13 +369,13 @@ fetch_hears does old before new after done denied tag header fis place e p t =
     (subst (λ (x : Place). HearsIf (regs_of o list).in_reset o (account o list) x tag fis talk operation) same h)) t
 
 pub complete_serves : {M : Type 0} (does : M → Access → M → Type 0) (old : State) (before : M)
-    (new : State) (after : M) (done : Done) (denied : Option Why) (tag n : ℕ) (header : Header)
+    (new : State) (after : M) (done : Done) (heard : Option Heard) (tag n : ℕ) (header : Header)
     (place : Place) → place ≡ place_of old.registers tag header
-    → TurnsAs does (λ o a. ServesSo o a place n None (Complete tag) (Completed tag)) old before new after done denied
-    → TurnsAs does (λ o a. CompletesFrom o a tag n (Ok header)) old before new after done denied
-complete_serves does old before new after done denied tag n header place p t =
+    → TurnsAs does (λ o a. ServesSo o a place n None (Complete tag) (Completed tag)) old before new after done (IsHeard heard)
+    → TurnsAs does (λ o a. CompletesFrom o a tag n (Ok header)) old before new after done (IsHeard heard)
+complete_serves does old before new after done heard tag n header place p t =
     turn_named does (λ o a. CompletesFrom o a tag n (Ok header))
-    (λ o a. ServesSo o a place n None (Complete tag) (Completed tag)) old before new after done denied
+    (λ o a. ServesSo o a place n None (Complete tag) (Completed tag)) old before new after done heard
     (λ o list a talk operation h.
     let same : place ≡ place_of (regs_of o list) tag header =
     p ∙ ap (λ (r : Registers). place_of r tag header) a.registers in
@@ -330,24 +383,24 @@ complete_serves does old before new after done denied tag n header place p t =
 
 -- What comes with a FIS, by the drive and by what it started from.
 pub executes_as : {M : Type 0} (does : M → Access → M → Type 0) (place : Place) (tag : ℕ) (fis : List ℕ)
-    (old : State) (before : M) (new : State) (after : M) (done : Done) (denied : Option Why)
-    → TurnsAs does (λ o a. ServesSo o a place (payload_of old.drive.tper.store.config fis) (Some tag) (Accept fis) (Fetched tag fis)) old before new after done denied
-    → TurnsAs does (λ o a. Executes o a place tag fis) old before new after done denied
-executes_as does place tag fis old before new after done denied t =
+    (old : State) (before : M) (new : State) (after : M) (done : Done) (heard : Option Heard)
+    → TurnsAs does (λ o a. ServesSo o a place (payload_of old.drive.tper.store.config fis) (Some tag) (Accept fis) (Fetched tag fis)) old before new after done (IsHeard heard)
+    → TurnsAs does (λ o a. Executes o a place tag fis) old before new after done (IsHeard heard)
+executes_as does place tag fis old before new after done heard t =
     turn_named does (λ o a. Executes o a place tag fis)
-    (λ o a. ServesSo o a place (payload_of old.drive.tper.store.config fis) (Some tag) (Accept fis) (Fetched tag fis)) old before new after done denied
+    (λ o a. ServesSo o a place (payload_of old.drive.tper.store.config fis) (Some tag) (Accept fis) (Fetched tag fis)) old before new after done heard
     (λ o list a talk operation h.
     subst (λ (config : Config). ServesSo o (account o list) place (payload_of config fis) (Some tag) (Accept fis) (Fetched tag fis) talk operation)
     a.acted.drive.tper.store.config h) t
 
 -- What is held is what the list holds.
 pub completes : {M : Type 0} (does : M → Access → M → Type 0) (old : State) (before : M)
-    (new : State) (after : M) (done : Done) (denied : Option Why) (tag : ℕ)
-    → TurnsAs does (λ o a. Completes o a tag (expected (held_at old.drive.queue tag))) old before new after done denied
-    → TurnsBy does (works.Complete tag) old before new after done denied
-completes does old before new after done denied tag t =
+    (new : State) (after : M) (done : Done) (heard : Option Heard) (tag : ℕ)
+    → TurnsAs does (λ o a. Completes o a tag (expected (held_at old.drive.queue tag))) old before new after done (IsHeard heard)
+    → TurnsBy does (works.Complete tag) old before new after done (IsHeard heard)
+completes does old before new after done heard tag t =
     turn_named does (IsWork (works.Complete tag))
-    (λ o a. Completes o a tag (expected (held_at old.drive.queue tag))) old before new after done denied
+    (λ o a. Completes o a tag (expected (held_at old.drive.queue tag))) old before new after done heard
     (λ o list a talk operation h.
     subst (λ (n : ℕ). Completes o (account o list) tag n talk operation) (ap expected (a.acted.drive.held tag)) h) t
 
@@ -357,7 +410,7 @@ pub signs : {M : Type 0} (does : M → Access → M → Type 0) (old : State) (b
     → fises ≡ signature_fis ∷ [] → to ≡ fises_at old.registers
     → ((talk : List Access) × Accessed does before talk after × PostsTo to fises talk missed)
     → Adds Signed old new
-    → TurnsAs does (λ o a. Signs a) old before new after dones.Posted None
+    → TurnsAs does (λ o a. Signs a) old before new after dones.Posted (IsHeard None)
 signs does old before new after to fises missed f e p adds = (
   p.0,
   Signed,
@@ -372,7 +425,7 @@ signs does old before new after to fises missed f e p adds = (
       refl,
     );
     agrees = adds o list a;
-    denied = refl;
+    told = refl;
   },
 )
 
@@ -390,11 +443,11 @@ runs_none does old before = ([], refl, λ o list a. (list, a, (refl, refl)))
 
 pub runs_more : {M : Type 0} (does : M → Access → M → Type 0) (n : ℕ) (first : State) (start : M)
     (old : State) (before : M) (new : State) (after : M) (work : Work) (done : Done)
-    (denied : Option Why) → Runs does n first start old before
-    → picked 0 (ready_on old) ≡ Some work → TurnsBy does work old before new after done denied
+    (Told : Origin → Account → Operation → Type 0) → Runs does n first start old before
+    → picked 0 (ready_on old) ≡ Some work → TurnsBy does work old before new after done Told
     → Runs does (n + 1) first start new after
 unfolding HasRun
-runs_more does n first start old before new after work done denied ran first_ready t = rw add-one (
+runs_more does n first start old before new after work done Told ran first_ready t = rw add-one (
   ran.0 ++ t.0,
   accessed_append does start before after ran.0 t.0 ran.1 t.2,
   λ o list a.
@@ -431,22 +484,22 @@ has_stopped does n first start old middle new after ran e reads = (
 -- An outcome that is known.
 pub told_as : {M : Type 0} (does : M → Access → M → Type 0)
     (Did : Origin → Account → List Access → Operation → Type 0) (old : State) (before : M)
-    (new : State) (after : M) (outcome : Outcome) (done : Done) (denied : Option Why)
-    → outcome ≡ record { done = done; denied = denied }
-    → TurnsAs does Did old before new after done denied
-    → TurnsAs does Did old before new after outcome.done outcome.denied
-told_as does Did old before new after outcome done denied e t =
-    subst (λ (x : Outcome). TurnsAs does Did old before new after x.done x.denied) (sym e) t
+    (new : State) (after : M) (outcome : Outcome) (done : Done) (heard : Option Heard)
+    → outcome ≡ record { done = done; heard = heard }
+    → TurnsAs does Did old before new after done (IsHeard heard)
+    → TurnsAs does Did old before new after outcome.done (IsHeard outcome.heard)
+told_as does Did old before new after outcome done heard e t =
+    subst (λ (x : Outcome). TurnsAs does Did old before new after x.done (IsHeard x.heard)) (sym e) t
 
 -- A turn that may fail for want of memory.
 pub if_turned : {M E : Type 0} (does : M → Access → M → Type 0)
     (First Next : Origin → Account → List Access → Operation → Type 0)
     (old : State) (before middle : M) (new : State) (after : M) (result : Result Outcome E)
-    → ((done : Done) (denied : Option Why) → TurnsAs does Next old middle new after done denied
-    → TurnsAs does First old before new after done denied)
-    → IfOk result (λ r. TurnsAs does Next old middle new after r.done r.denied)
-    → IfOk result (λ r. TurnsAs does First old before new after r.done r.denied)
-if_turned does First Next old before middle new after (Ok r) f h = f r.done r.denied h
+    → ((done : Done) (heard : Option Heard) → TurnsAs does Next old middle new after done (IsHeard heard)
+    → TurnsAs does First old before new after done (IsHeard heard))
+    → IfOk result (λ r. TurnsAs does Next old middle new after r.done (IsHeard r.heard))
+    → IfOk result (λ r. TurnsAs does First old before new after r.done (IsHeard r.heard))
+if_turned does First Next old before middle new after (Ok r) f h = f r.done r.heard h
 if_turned does First Next old before middle new after (Err e) f h = tt
 
 -- What is asked for data alone is read.
@@ -508,10 +561,10 @@ shown_completed old acted new tag fises arrival r s =
 -- The work, as it was matched.
 pub by_work : {M E : Type 0} (does : M → Access → M → Type 0) (work matched : Work) (old : State)
     (before : M) (new : State) (after : M) (result : Result Outcome E) → work ≡ matched
-    → IfOk result (λ r. TurnsBy does matched old before new after r.done r.denied)
-    → IfOk result (λ r. TurnsBy does work old before new after r.done r.denied)
+    → IfOk result (λ r. TurnsBy does matched old before new after r.done (IsHeard r.heard))
+    → IfOk result (λ r. TurnsBy does work old before new after r.done (IsHeard r.heard))
 by_work does work matched old before new after result e h =
-    subst (λ (w : Work). IfOk result (λ r. TurnsBy does w old before new after r.done r.denied)) (sym e) h
+    subst (λ (w : Work). IfOk result (λ r. TurnsBy does w old before new after r.done (IsHeard r.heard))) (sym e) h
 
 -- Nothing more has moved.
 pub runs_still : {M : Type 0} (does : M → Access → M → Type 0) (n : ℕ) (first : State) (start : M)
@@ -525,16 +578,16 @@ runs_still {M} does n first start old before new after ran e f =
 pub turn_between : {M E : Type 0} (does : M → Access → M → Type 0)
     (Did : Origin → Account → List Access → Operation → Type 0) (first old : State) (before : M)
     (new last : State) (after : M) (result : Result Outcome E) → old ≡ first → last ≡ new
-    → IfOk result (λ r. TurnsAs does Did old before new after r.done r.denied)
-    → IfOk result (λ r. TurnsAs does Did first before last after r.done r.denied)
+    → IfOk result (λ r. TurnsAs does Did old before new after r.done (IsHeard r.heard))
+    → IfOk result (λ r. TurnsAs does Did first before last after r.done (IsHeard r.heard))
 turn_between does Did first old before new last after result e f h =
-    subst (λ (s : State). IfOk result (λ r. TurnsAs does Did s before last after r.done r.denied)) e
-    (subst (λ (s : State). IfOk result (λ r. TurnsAs does Did old before s after r.done r.denied)) (sym f) h)
+    subst (λ (s : State). IfOk result (λ r. TurnsAs does Did s before last after r.done (IsHeard r.heard))) e
+    (subst (λ (s : State). IfOk result (λ r. TurnsAs does Did old before s after r.done (IsHeard r.heard))) (sym f) h)
 
 pub turn_kept : {M : Type 0} (does : M → Access → M → Type 0)
     (Did : Origin → Account → List Access → Operation → Type 0) (old : State) (before : M)
-    (new last : State) (after : M) (done : Done) (denied : Option Why) → last ≡ new
-    → TurnsAs does Did old before new after done denied
-    → TurnsAs does Did old before last after done denied
-turn_kept does Did old before new last after done denied e t =
-    subst (λ (s : State). TurnsAs does Did old before s after done denied) (sym e) t
+    (new last : State) (after : M) (done : Done) (heard : Option Heard) → last ≡ new
+    → TurnsAs does Did old before new after done (IsHeard heard)
+    → TurnsAs does Did old before last after done (IsHeard heard)
+turn_kept does Did old before new last after done heard e t =
+    subst (λ (s : State). TurnsAs does Did old before s after done (IsHeard heard)) (sym e) t

@@ -10,7 +10,6 @@ use Rattle.history.specs.History.{Act, Accept, Complete, log}
 use Rattle.history.specs.Readers.{held}
 use Rattle.history.specs.Opening.{Origin}
 use Rattle.host_memory.specs.Access.{Access, Asked, Accessed, OnlyReads}
-use Rattle.audit.specs.declared.reason.Why.{Why}
 use Rattle.port_history.specs.Steps.{Effect}
 use Rattle.slots.specs.Layout.{header_size}
 use Rattle.hba.specs.declared.work.Work.{Work}
@@ -18,6 +17,7 @@ use Rattle.hba.specs.declared.work.Work.TheVariants as works
 use Rattle.hba.specs.declared.work.Done.{Done}
 use Rattle.hba.specs.declared.work.Done.TheVariants as dones
 use Rattle.hba.specs.declared.work.Turned.{Turned}
+use Rattle.hba.specs.declared.work.TurnedHeard.{TurnedHeard}
 use Rattle.hba.specs.declared.registers.Registers.{Registers}
 use Rattle.host_memory.specs.declared.hba_memory.miss.Miss.{Miss}
 use Rattle.host_memory.specs.declared.hba_memory.miss.Miss.TheVariants as misses
@@ -28,7 +28,7 @@ use Rattle.host_memory.specs.declared.hba_memory.delivery.Place.{Place}
 use Rattle.slots.specs.Table.{is_command}
 use Rattle.host_memory.specs.Memory.{header_by, descriptors_of, moved_by, Gathers, PostsTo, Delivers}
 use Rattle.hba.specs.Showing.{fault_of}
-use Rattle.hba.specs.History.{Operation, Wrote, Powered, Signed, Missed, Controlled, Asserted, Restarted, Unheard, Fetched, Completed, Account, State, AgreesHba, account, effect_after, operation_denied}
+use Rattle.hba.specs.History.{Operation, Wrote, Powered, Signed, Missed, Controlled, Asserted, Restarted, Unheard, Fetched, Completed, Account, State, AgreesHba, account, effect_after, IsDenied, IsHeard}
 use Rattle.hba.specs.Ready.{picked, ready_after}
 use Rattle.hba.specs.SoftwareReset.{resets_behind}
 
@@ -184,35 +184,43 @@ done_of (Unheard tag) = Some dones.Control
 done_of (Fetched tag fis payload arrival) = Some (done_by arrival.missed)
 done_of (Completed tag payload arrival) = Some (done_by arrival.missed)
 
--- What a piece of work was, after a list of operations that the HBA agreed with.
+-- What a piece of work was, after a list of operations that the HBA agreed with, and that this is told of its operation.
 pub record TurnedSo (o : Origin) (list : List Operation) (operation : Operation) (new : State)
-    (why : Option Why) (Did : Origin → Account → List Access → Operation → Type 0)
-    (talk : List Access) : Type 0 where
+    (Told : Origin → Account → Operation → Type 0)
+    (Did : Origin → Account → List Access → Operation → Type 0) (talk : List Access)
+    : Type 0 where
   pub did : Did o (account o list) talk operation
   pub agrees : AgreesHba new o (operation ∷ list)
-  pub denied : why ≡ operation_denied o (account o list) operation
+  pub told : Told o (account o list) operation
 
 -- The engine's accesses of the host's memory, and the operation that they are, whatever list the HBA
 -- agreed with.
 abbrev pub TurnsAs : {M : Type 0} → (M → Access → M → Type 0)
     → (Origin → Account → List Access → Operation → Type 0) → State → M → State → M → Done
-    → Option Why → Type 0
-TurnsAs does Did old before new after done denied =
+    → (Origin → Account → Operation → Type 0) → Type 0
+TurnsAs does Did old before new after done Told =
     (talk : List Access) × (operation : Operation) × Accessed does before talk after
     × (done_of operation ≡ Some done)
     × ((o : Origin) (list : List Operation) → AgreesHba old o list
-    → TurnedSo o list operation new denied Did talk)
+    → TurnedSo o list operation new Told Did talk)
 
 -- A piece of work is done, and told.
 abbrev pub TurnsBy : {M : Type 0} → (M → Access → M → Type 0) → Work → State → M → State → M
-    → Done → Option Why → Type 0
-TurnsBy does work old before new after done denied =
-    TurnsAs does (IsWork work) old before new after done denied
+    → Done → (Origin → Account → Operation → Type 0) → Type 0
+TurnsBy does work old before new after done Told =
+    TurnsAs does (IsWork work) old before new after done Told
 
+-- With what denied its command.
 abbrev pub TurnsTo : {M : Type 0} → (M → Access → M → Type 0) → State → M → State → M → Turned
     → Type 0
 TurnsTo does old before new after turned =
-    TurnsBy does turned.work old before new after turned.done turned.denied
+    TurnsBy does turned.work old before new after turned.done (IsDenied turned.denied)
+
+-- With the whole command.
+abbrev pub HearsTo : {M : Type 0} → (M → Access → M → Type 0) → State → M → State → M
+    → TurnedHeard → Type 0
+HearsTo does old before new after turned =
+    TurnsBy does turned.work old before new after turned.done (IsHeard turned.heard)
 
 -- So many turns, each with the first work that may be done then.
 unfoldable pub HasRun : Origin → ℕ → List Operation → List Access → List Operation → Type 0

@@ -1,13 +1,16 @@
 -- Lists of operations of an HBA, the newest first: what the host wrote, and what the engine did with
 -- what it read of the host's memory. What they make of the registers and of the drive follows from
 -- them and from what the drive started from, alone.
-use Rattle.std.specs.Prelude.{◌≡◌, ◌%◌, ◌^◌, ℕ, List, [], ◌∷◌, length, Option, None, if◌then◌else◌}
+use Rattle.std.specs.Prelude.{◌≡◌, ◌%◌, ◌^◌, ℕ, List, [], ◌∷◌, length, Option, None, Some, if◌then◌else◌}
 use Rattle.sp_cells.specs.Resets.{power_cycle, hardware}
 use Rattle.history.specs.Facts.{facts}
 use Rattle.history.specs.History.{Act, Accept, Complete, Reset, SoftwareReset, log}
 use Rattle.history.specs.Opening.{Origin}
 use Rattle.drive.specs.State.{DriveState, Agrees}
 use Rattle.audit.specs.declared.reason.Why.{Why}
+use Rattle.fis.specs.H2d.{h2d_at}
+use Rattle.history.specs.Events.{Event}
+use Rattle.hba.specs.declared.work.Heard.{Heard}
 use Rattle.port_history.specs.Steps.{Effect, effect_by}
 use Rattle.hba.specs.Blocks.{by_blocks}
 use Rattle.hba.specs.declared.registers.Registers.{Registers}
@@ -115,6 +118,33 @@ abbrev pub operation_denied : Origin → Account → Operation → Option Why
 operation_denied o a (Fetched tag fis payload arrival) =
     (effect_after o a (Accept fis payload)).event.denied
 operation_denied o a _ = None
+
+-- That denial is told.
+abbrev pub IsDenied : Option Why → Origin → Account → Operation → Type 0
+IsDenied denied o a operation = denied ≡ operation_denied o a operation
+
+-- The command that the drive was given is told: its FIS as it is read, what came with it, and by what its event was
+-- refused, if it was.
+pub record HeardSo (heard : Heard) (fis bytes : List ℕ) (event : Event) : Type 0 where
+  pub header : heard.header ≡ h2d_at fis
+  pub payload : heard.payload.items ≡ bytes
+  pub denied : heard.denied ≡ event.denied
+  pub rule : heard.rule ≡ event.rule
+
+abbrev pub IsHeardOf : Option Heard → List ℕ → List ℕ → Event → Type 0
+IsHeardOf None fis payload event = ⊥
+IsHeardOf (Some heard) fis payload event = HeardSo heard fis payload event
+
+-- A fetch of a command tells it, and no other operation tells one.
+abbrev pub IsHeard : Option Heard → Origin → Account → Operation → Type 0
+IsHeard heard o a (Fetched tag fis payload arrival) =
+    IsHeardOf heard fis payload (effect_after o a (Accept fis payload)).event
+IsHeard heard o a _ = heard ≡ None
+
+-- What denied the command that is told.
+abbrev pub denied_in : Option Heard → Option Why
+denied_in None = None
+denied_in (Some heard) = heard.denied
 
 -- Whatever list the HBA agreed with, it agrees with that list and the operation in front.
 abbrev pub Adds : Operation → State → State → Type 0

@@ -91,3 +91,13 @@ abbrev pub picked : ℕ → List Work → Option Work
 picked choice [] = None
 picked choice (work ∷ later) =
     Some (slice_index_or (work ∷ later) (choice % length (work ∷ later)) work)
+
+-- A fetch and a completion take memory, for what comes with a command and for what it gives. The signature takes none.
+abbrev pub takes_memory : Work → Bool
+takes_memory works.Signature = false
+takes_memory (works.Fetch tag) = true
+takes_memory (works.Complete tag) = true
+
+abbrev pub picks_memory : Option Work → Bool
+picks_memory None = false
+picks_memory (Some work) = takes_memory work

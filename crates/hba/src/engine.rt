@@ -2,16 +2,17 @@
 
 ghost use Rattle.std.specs.Prelude.{◌≡◌, ◌<◌, ◌≤◌, ◌^◌, List, ◌∷◌, Option, OnOk, OnErr, IfOk, length, is_some, true, Some, None};
 ghost use Rattle.history.specs.Answers.{payload_of, expected};
-ghost use Rattle.host_memory.specs.Access.{OnlyReads};
+ghost use Rattle.host_memory.specs.Access.{Access, Accessed, OnlyReads};
+ghost use Rattle.host_memory.specs.Memory.{Gathers, brought_as, moved_by};
 ghost use Rattle.hba.specs.Engine.{signature_fis};
 
 use crate::blocks::by_blocks;
 use crate::hba::{Hba, one_more};
-use crate::work::{Done, Outcome, Work, fault_of};
+use crate::work::{Done, Heard, Outcome, Work, fault_of};
 use drive::{Accepted, Completed, DriveError};
 use fis::{Fis, H2D_LENGTH, Lba, RegD2h, RegH2d, Tag};
 use host_memory::hba_memory::{
-    Arrival, Header, Miss, Place, deliver, gather, header_by, is_command, post_all,
+    Arrival, Header, Miss, Moved, Place, deliver, gather, header_by, is_command, post_all,
 };
 use host_memory::{HostMemory, read_array};
 use std::alloc::AllocError;
@@ -30,6 +31,24 @@ pub(crate) fn signature_fis() -> Fis
     })
 }
 
+/// Fills a room by the blocks that so many descriptors from an address on name, as `gather` fills bytes.
+fn bring<M: HostMemory>(
+    memory: &mut M,
+    at: u64,
+    entries: u16,
+    room: &mut Vec<u8>,
+) -> Result<Moved, Miss>
+    requires { at < 2 ^ 33 }
+    ensures brings { (talk : List Access) × Accessed M.does memory.old talk memory.new
+        × Gathers at entries (length room.old.items) talk
+        (brought_as (λ done. room.new.items) result)
+        × IfOk result (λ moved. moved ≡ moved_by talk (length room.old.items)) }
+    ensures long { length room.new.items ≡ length room.old.items }
+{
+    let moved = gather(memory, at, entries, room);
+    moved
+}
+
 impl Hba {
     ghost use Rattle.history.specs.Opening.{Origin};
     ghost use Rattle.history.specs.History.{Accept, Complete};
@@ -38,10 +57,10 @@ impl Hba {
     ghost use Rattle.fis.specs.Types.{h2d_type};
     ghost use Rattle.drive.specs.Answers.{fises_in, fises_done};
     ghost use Rattle.drive.specs.Queue.{held_at};
-    ghost use Rattle.hba.specs.History.{Operation, Completed as CompletedTag, Signed, Missed, AgreesHba, HasActed, Adds, account, acts_of, drive_effect, effect_after};
+    ghost use Rattle.hba.specs.History.{Operation, Completed as CompletedTag, Signed, Missed, AgreesHba, HasActed, Adds, account, acts_of, drive_effect, effect_after, IsHeard};
     ghost use Rattle.hba.specs.Showing.{fetching, fault_of, arrived};
     ghost use Rattle.hba.specs.Engine.{IsEffect, header_at, fises_at, place_of, done_by, Executes, Fetches, Completes, CompletesFrom, ServesSo, IsWork, TurnsAs, TurnsBy, Signs};
-    ghost use Rattle.hba.specs.Ready.{is_ready_on};
+    ghost use Rattle.hba.specs.Ready.{is_ready_on, takes_memory};
     ghost use Rattle.hba.specs.declared.work.Done.TheVariants as dones;
 
     /// The drive takes a command.
@@ -67,6 +86,10 @@ impl Hba {
             → AgreesHba self.old o list
             → answer.new.denied
             ≡ (effect_after o (account o list) (Accept fis.now payload.now)).event.denied) }
+        ensures rule { OnOk result ((o : Origin) (list : List Operation)
+            → AgreesHba self.old o list
+            → answer.new.rule
+            ≡ (effect_after o (account o list) (Accept fis.now payload.now)).event.rule) }
         ensures registers { self.new.registers ≡ self.old.registers }
         ensures err { OnErr result (self.new ≡ self.old) }
     {
@@ -98,23 +121,26 @@ impl Hba {
         Ok(completed)
     }
 
-    /// Room for so many bytes of a payload, or more. What stands there is not said.
+    /// Room for just so many bytes of a payload. What stands there is not said.
     fn take_room(&mut self, len: usize) -> Result<Vec<u8>, AllocError>
-        ensures long { IfOk result (λ room. len ≤ length room.items) }
+        ensures long { IfOk result (λ room. length room.items ≡ len) }
         ensures same { self.new ≡ self.old }
     {
-        let mut room = replace(&mut self.room, Vec::new(self.alloc));
-        if room.len() < len {
-            room.resize(len, 0)?;
+        if len == 0 {
+            return Ok(Vec::new(self.alloc));
         }
+        let mut room = replace(&mut self.room, Vec::new(self.alloc));
+        room.resize(len, 0)?;
         Ok(room)
     }
 
-    /// Keeps the room for the next command.
-    fn put_back(&mut self, room: Vec<u8>)
+    /// Takes the bytes of a command back, as room for those of the next.
+    pub fn put_back(&mut self, room: Vec<u8>)
         ensures { self.new ≡ self.old }
     {
-        self.room = room;
+        if !room.is_empty() {
+            self.room = room;
+        }
     }
 
     /// Gives the vector of an answer back to the drive, for its next answer.
@@ -161,13 +187,13 @@ impl Hba {
     /// Memory failed before the drive's act, of the fetch under a tag or of a completion.
     fn miss(&mut self, fetched: Option<Tag>, miss: Miss) -> Outcome
         ensures agrees { Adds (Missed fetched miss) self.old self.new }
-        ensures told { result ≡ record { done = dones.Fault (fault_of miss); denied = None } }
+        ensures told { result ≡ record { done = dones.Fault (fault_of miss); heard = None } }
     {
         self.registers.begin(fetched);
         self.registers.fault(miss);
         Outcome {
             done: Done::Fault(fault_of(miss)),
-            denied: None,
+            heard: None,
         }
     }
 
@@ -198,37 +224,41 @@ impl Hba {
         tag: Tag,
         place: Place,
         fis: &[u8; H2D_LENGTH],
-        h: &RegH2d,
-        room: &mut [u8],
+        header: RegH2d,
+        mut room: Vec<u8>,
         memory: &mut M,
     ) -> Result<Outcome, AllocError>
         requires near { place.at < 2 ^ 40 }
         requires kind { slice_index fis.now 0 ≡ h2d_type }
-        requires read { h.now ≡ h2d_at fis.now }
-        requires long { length room.old ≡ payload_of self.old.drive.tper.store.config fis.now }
+        requires read { header ≡ h2d_at fis.now }
+        requires long { length room.items ≡ payload_of self.old.drive.tper.store.config fis.now }
         ensures done { IfOk result (λ r. TurnsAs M.does (λ o a. Executes o a place tag fis.now)
-            self.old memory.old self.new memory.new r.done r.denied) }
+            self.old memory.old self.new memory.new r.done (IsHeard r.heard)) }
         ensures err { OnErr result (self.new ≡ self.old) }
         ensures kept { OnErr result (OnlyReads M.does memory.old memory.new) }
     {
         let at = place.header.descriptors();
-        let brought = match gather(memory, at, place.header.entries, room) {
+        let brought = match bring(memory, at, place.header.entries, &mut room) {
             Ok(brought) => brought,
             Err(miss) => return Ok(self.miss(Some(tag), miss)),
         };
         let mut answer = Accepted::none(self.alloc);
-        self.take(fis, h, room, &mut answer)?;
+        let payload = room.as_slice();
+        self.take(fis, &header, payload, &mut answer)?;
         let bytes = answer.bytes.as_slice();
-        let told = by_blocks(&answer.fises(), room, bytes);
+        let told = by_blocks(&answer.fises(), payload, bytes);
         let fises = told.as_slice();
         let delivered = deliver(memory, place, brought, fises, bytes);
         self.note_fetch(tag);
         let done = self.show(tag, fises, delivered);
         self.give_back(answer.bytes);
-        Ok(Outcome {
-            done,
+        let heard = Some(Heard {
+            header,
+            payload: room,
             denied: answer.denied,
-        })
+            rule: answer.rule,
+        });
+        Ok(Outcome { done, heard })
     }
 
     /// The engine executes the command of a slot.
@@ -242,22 +272,21 @@ impl Hba {
         requires near { place.at < 2 ^ 40 }
         requires kind { slice_index fis.now 0 ≡ h2d_type }
         ensures done { IfOk result (λ r. TurnsAs M.does (λ o a. Executes o a place tag fis.now)
-            self.old memory.old self.new memory.new r.done r.denied) }
+            self.old memory.old self.new memory.new r.done (IsHeard r.heard)) }
         ensures err { OnErr result (self.new ≡ self.old) }
         ensures kept { OnErr result (OnlyReads M.does memory.old memory.new) }
     {
         let h = RegH2d::read(fis);
         let len = self.drive.payload_len_of(fis, &h);
-        let mut room = self.take_room(len)?;
-        let outcome = self.execute_in(tag, place, fis, &h, &mut room[..len], memory);
-        self.put_back(room);
+        let room = self.take_room(len)?;
+        let outcome = self.execute_in(tag, place, fis, h, room, memory);
         outcome
     }
 
     /// The engine fetches the command under a tag.
     fn fetch<M: HostMemory>(&mut self, tag: Tag, memory: &mut M) -> Result<Outcome, AllocError>
         ensures done { IfOk result (λ r. TurnsAs M.does (λ o a. Fetches o a tag)
-            self.old memory.old self.new memory.new r.done r.denied) }
+            self.old memory.old self.new memory.new r.done (IsHeard r.heard)) }
         ensures err { OnErr result (self.new ≡ self.old) }
         ensures kept { OnErr result (OnlyReads M.does memory.old memory.new) }
     {
@@ -290,7 +319,7 @@ impl Hba {
         requires held { is_some (held_at self.old.drive.queue tag) ≡ true }
         ensures done { IfOk result (λ r. TurnsAs M.does
             (λ o a. ServesSo o a place len None (Complete tag) (CompletedTag tag))
-            self.old memory.old self.new memory.new r.done r.denied) }
+            self.old memory.old self.new memory.new r.done (IsHeard r.heard)) }
         ensures err { OnErr result (self.new ≡ self.old) }
         ensures kept { OnErr result (OnlyReads M.does memory.old memory.new) }
     {
@@ -305,7 +334,7 @@ impl Hba {
         let delivered = deliver(memory, place, brought, fises, bytes);
         let done = self.show(tag, fises, delivered);
         self.give_back(completed.bytes);
-        Ok(Outcome { done, denied: None })
+        Ok(Outcome { done, heard: None })
     }
 
     /// The engine completes the command of a slot, whose data are so many.
@@ -321,7 +350,7 @@ impl Hba {
         requires held { is_some (held_at self.old.drive.queue tag) ≡ true }
         ensures done { IfOk result (λ r. TurnsAs M.does
             (λ o a. ServesSo o a place len None (Complete tag) (CompletedTag tag))
-            self.old memory.old self.new memory.new r.done r.denied) }
+            self.old memory.old self.new memory.new r.done (IsHeard r.heard)) }
         ensures err { OnErr result (self.new ≡ self.old) }
         ensures kept { OnErr result (OnlyReads M.does memory.old memory.new) }
     {
@@ -336,7 +365,7 @@ impl Hba {
         requires { is_some (held_at self.old.drive.queue tag) ≡ true }
         ensures done { IfOk result (λ r. TurnsAs M.does
             (λ o a. Completes o a tag (expected (held_at self.old.drive.queue tag)))
-            self.old memory.old self.new memory.new r.done r.denied) }
+            self.old memory.old self.new memory.new r.done (IsHeard r.heard)) }
         ensures err { OnErr result (self.new ≡ self.old) }
         ensures kept { OnErr result (OnlyReads M.does memory.old memory.new) }
     {
@@ -352,14 +381,14 @@ impl Hba {
     /// The device tells its signature.
     fn sign<M: HostMemory>(&mut self, memory: &mut M) -> Outcome
         ensures { TurnsAs M.does (λ o a. Signs a) self.old memory.old self.new memory.new
-            result.done result.denied }
+            result.done (IsHeard result.heard) }
     {
         let to = self.received_at();
         let _ = post_all(memory, to, &[signature_fis()]);
         self.note_signature();
         Outcome {
             done: Done::Posted,
-            denied: None,
+            heard: None,
         }
     }
 
@@ -372,7 +401,8 @@ impl Hba {
     ) -> Result<Outcome, AllocError>
         requires { is_ready_on self.old work.now ≡ true }
         ensures done { IfOk result (λ r. TurnsBy M.does work.now
-            self.old memory.old self.new memory.new r.done r.denied) }
+            self.old memory.old self.new memory.new r.done (IsHeard r.heard)) }
+        ensures refused { OnErr result (takes_memory work.now ≡ true) }
         ensures err { OnErr result (self.new ≡ self.old) }
         ensures kept { OnErr result (OnlyReads M.does memory.old memory.new) }
     {

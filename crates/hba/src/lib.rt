@@ -18,4 +18,4 @@ pub use laws::{
     laws_of_service, laws_of_slots, laws_of_writes,
 };
 pub use registers::Registers;
-pub use work::{Done, HbaError, MemoryFault, Turned, Work};
+pub use work::{Done, HbaError, Heard, MemoryFault, Turned, TurnedHeard, Work};

@@ -21,11 +21,11 @@ const SOFTWARE_RESET: u8 = 0x04;
 
 /// What a FIS that carries no command was done with.
 fn of_control() -> Outcome
-    ensures { result ≡ record { done = dones.Control; denied = None } }
+    ensures { result ≡ record { done = dones.Control; heard = None } }
 {
     Outcome {
         done: Done::Control,
-        denied: None,
+        heard: None,
     }
 }
 
@@ -71,7 +71,7 @@ impl Registers {
 }
 
 impl Hba {
-    ghost use Rattle.hba.specs.History.{Controlled, Asserted, Restarted, Unheard, Adds};
+    ghost use Rattle.hba.specs.History.{Controlled, Asserted, Restarted, Unheard, Adds, IsHeard};
     ghost use Rattle.hba.specs.Engine.{Controls, ControlsTo, HearsIf, TurnsAs};
     ghost use Rattle.hba.specs.declared.work.Done.TheVariants as dones;
 
@@ -108,7 +108,7 @@ impl Hba {
     /// The device tells its signature, and is out of reset.
     fn restart<M: HostMemory>(&mut self, tag: Tag, memory: &mut M)
         ensures { TurnsAs M.does (λ o a. ControlsTo false true a tag)
-            self.old memory.old self.new memory.new dones.Control None }
+            self.old memory.old self.new memory.new dones.Control (IsHeard None) }
     {
         let to = self.registers.received_at();
         let _ = post_all(memory, to, &[signature_fis()]);
@@ -118,7 +118,7 @@ impl Hba {
     /// A FIS that carries no command is taken.
     fn take_control<M: HostMemory>(&mut self, tag: Tag, fis: &[u8; H2D_LENGTH], memory: &mut M)
         ensures { TurnsAs M.does (λ o a. Controls a tag fis.now)
-            self.old memory.old self.new memory.new dones.Control None }
+            self.old memory.old self.new memory.new dones.Control (IsHeard None) }
     {
         if self.registers.resets_behind(fis) {
             self.enter_reset(tag);
@@ -137,7 +137,7 @@ impl Hba {
         memory: &mut M,
     ) -> Outcome
         ensures { TurnsAs M.does (λ o a. Controls a tag fis.now)
-            self.old memory.old self.new memory.new result.done result.denied }
+            self.old memory.old self.new memory.new result.done (IsHeard result.heard) }
     {
         self.take_control(tag, fis, memory);
         of_control()
@@ -155,7 +155,7 @@ impl Hba {
         requires kind { slice_index fis.now 0 ≡ h2d_type }
         ensures done { IfOk result (λ r. TurnsAs M.does
             (λ o a. HearsIf a.registers.in_reset o a place tag fis.now)
-            self.old memory.old self.new memory.new r.done r.denied) }
+            self.old memory.old self.new memory.new r.done (IsHeard r.heard)) }
         ensures err { OnErr result (self.new ≡ self.old) }
         ensures kept { OnErr result (OnlyReads M.does memory.old memory.new) }
     {

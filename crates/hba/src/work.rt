@@ -8,8 +8,9 @@ ghost use Rattle.hba.specs.Showing.{fault_of};
 
 use crate::hba::Hba;
 use arrayvec::ArrayVec;
+use audit::rules::Rule;
 use drive::Why;
-use fis::Tag;
+use fis::{RegH2d, Tag};
 use host_memory::hba_memory::Miss;
 use thiserror::Error;
 
@@ -66,11 +67,31 @@ pub enum Done {
     Fault(MemoryFault),
 }
 
-/// How a piece of work went, and what denied the command that it fetched.
-#[derive(Debug, Drop, PartialEq, Eq)]
+/// A command that the drive was given: its FIS as it is read, what came with it, and by what it was refused, if it was.
+#[derive(Drop)]
+pub struct Heard {
+    pub header: RegH2d,
+    /// The data to the drive; none of a command that takes none.
+    pub payload: Vec<u8>,
+    /// What denied the command, or the item that it sent.
+    pub denied: Option<Why>,
+    /// Which rule refused it, where nothing denied it.
+    pub rule: Option<Rule>,
+}
+
+/// How a piece of work went, and the command that it gave to the drive.
+#[derive(Drop)]
 pub struct Outcome {
     pub done: Done,
-    pub denied: Option<Why>,
+    pub heard: Option<Heard>,
+}
+
+/// A piece of work, how it went, and the command that it gave to the drive.
+#[derive(Drop)]
+pub struct TurnedHeard {
+    pub work: Work,
+    pub done: Done,
+    pub heard: Option<Heard>,
 }
 
 /// A piece of work, how it went, and what denied the command that it fetched.

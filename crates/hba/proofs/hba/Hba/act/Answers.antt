@@ -18,6 +18,6 @@ returns-in-Complete-clause-done g c =
     (if_turned g.M.HostMemory.does (IsWork (works.Complete c.in-Complete.tag))
     (λ o a. Completes o a c.in-Complete.tag (expected (held_at c.args.self.now.drive.queue c.in-Complete.tag)))
     c.args.self.now c.args.memory.now c.args.memory.now c.complete.new.self c.complete.new.memory c.complete.result
-    (λ done denied t.
-    completes g.M.HostMemory.does c.args.self.now c.args.memory.now c.complete.new.self c.complete.new.memory done denied
+    (λ done heard t.
+    completes g.M.HostMemory.does c.args.self.now c.args.memory.now c.complete.new.self c.complete.new.memory done heard
     c.in-Complete.tag t) c.complete.ensures.done)

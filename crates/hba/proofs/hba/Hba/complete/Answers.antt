@@ -29,12 +29,12 @@ returns-clause-done g c =
     if_turned g.M.HostMemory.does (λ o a. Completes o a c.args.tag (expected (held_at c.args.self.now.drive.queue c.args.tag)))
     (λ o a. ServesSo o a c.place_of-place.result (expected (held_at c.args.self.now.drive.queue c.args.tag)) None (Complete c.args.tag) (Completed c.args.tag))
     c.args.self.now c.args.memory.now c.read_array.new.memory c.end.new.self c.end.new.memory c.end.result
-    (λ done denied t.
-    complete_header g.M.HostMemory.does c.args.self.now c.args.memory.now c.read_array.new.memory c.end.new.self c.end.new.memory done denied c.args.tag
+    (λ done heard t.
+    complete_header g.M.HostMemory.does c.args.self.now c.args.memory.now c.read_array.new.memory c.end.new.self c.end.new.memory done heard c.args.tag
     (expected (held_at c.args.self.now.drive.queue c.args.tag))
     c.read_array.result (Ok c.in-Ok.header) (sym c.header_by.ensures ∙ c.in-Ok.is)
     (rw c.header_at.ensures.value at c.read_array.ensures)
-    (complete_serves g.M.HostMemory.does c.args.self.now c.read_array.new.memory c.end.new.self c.end.new.memory done denied c.args.tag
+    (complete_serves g.M.HostMemory.does c.args.self.now c.read_array.new.memory c.end.new.self c.end.new.memory done heard c.args.tag
     (expected (held_at c.args.self.now.drive.queue c.args.tag)) c.in-Ok.header c.place_of-place.result c.place_of-place.ensures.value t))
     (rw len at c.end.ensures.done)
 

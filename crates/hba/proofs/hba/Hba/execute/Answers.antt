@@ -12,10 +12,10 @@ returns-in_err-room-clause-kept g c = on_err c.from_residual.result _ ([], tt, r
 pub returns-clause-done : goal.returns-clause-done
 returns-clause-done g c =
     turn_between g.M.HostMemory.does (λ o a. Executes o a c.args.place c.args.tag c.args.fis.now) c.args.self.now c.take_room.new.self c.args.memory.now
-    c.execute_in-outcome.new.self c.put_back.new.self c.execute_in-outcome.new.memory c.execute_in-outcome.result
-    c.in_ok-room.ensures.same c.put_back.ensures c.execute_in-outcome.ensures.done
+    c.execute_in-outcome.new.self c.execute_in-outcome.new.self c.execute_in-outcome.new.memory c.execute_in-outcome.result
+    c.in_ok-room.ensures.same refl c.execute_in-outcome.ensures.done
 
 pub returns-clause-err : goal.returns-clause-err
 returns-clause-err g c =
-    on_err_weaker c.execute_in-outcome.result (λ h. c.put_back.ensures ∙ h ∙ c.in_ok-room.ensures.same)
+    on_err_weaker c.execute_in-outcome.result (λ h. h ∙ c.in_ok-room.ensures.same)
     c.execute_in-outcome.ensures.err

@@ -34,13 +34,13 @@ returns-in_default-clause-done g c =
 
 pub returns-then-not-is_command-clause-done : goal.returns-then-not-is_command-clause-done
 returns-then-not-is_command-clause-done g c =
-    fetch_header g.M.HostMemory.does c.args.self.now c.args.memory.now c.read_array.new.memory c.control.new.self c.control.new.memory c.control.result.done c.control.result.denied c.args.tag
+    fetch_header g.M.HostMemory.does c.args.self.now c.args.memory.now c.read_array.new.memory c.control.new.self c.control.new.memory c.control.result.done c.control.result.heard c.args.tag
     c.read_array.result (Ok c.in-Ok.header) (sym c.header_by.ensures ∙ c.in-Ok.is)
     (rw c.header_at.ensures.value at c.read_array.ensures)
     (fetch_fis g.M.HostMemory.does c.args.self.now c.read_array.new.memory c.read_array-2.new.memory c.control.new.self c.control.new.memory
-    c.control.result.done c.control.result.denied c.args.tag c.in-Ok.header (Some c.in-Some.fis)
+    c.control.result.done c.control.result.heard c.args.tag c.in-Ok.header (Some c.in-Some.fis)
     (rw (c.from.ensures, c.in-Some.is) at c.read_array-2.ensures)
-    (fetch_control g.M.HostMemory.does c.args.self.now c.read_array-2.new.memory c.control.new.self c.control.new.memory c.control.result.done c.control.result.denied
+    (fetch_control g.M.HostMemory.does c.args.self.now c.read_array-2.new.memory c.control.new.self c.control.new.memory c.control.result.done c.control.result.heard
     c.args.tag c.in-Ok.header c.in-Some.fis
     (sym c.is_command.ensures ∙ c.if-not-is_command.true) c.control.ensures))
 
@@ -53,14 +53,14 @@ pub returns-clause-done : goal.returns-clause-done
 returns-clause-done g c =
     if_turned g.M.HostMemory.does (λ o a. Fetches o a c.args.tag) (λ o a. HearsIf a.registers.in_reset o a c.place_of-place.result c.args.tag c.in-Some.fis)
     c.args.self.now c.args.memory.now c.read_array-2.new.memory c.hear.new.self c.hear.new.memory c.hear.result
-    (λ done denied t.
-    fetch_header g.M.HostMemory.does c.args.self.now c.args.memory.now c.read_array.new.memory c.hear.new.self c.hear.new.memory done denied c.args.tag
+    (λ done heard t.
+    fetch_header g.M.HostMemory.does c.args.self.now c.args.memory.now c.read_array.new.memory c.hear.new.self c.hear.new.memory done heard c.args.tag
     c.read_array.result (Ok c.in-Ok.header) (sym c.header_by.ensures ∙ c.in-Ok.is)
     (rw c.header_at.ensures.value at c.read_array.ensures)
     (fetch_fis g.M.HostMemory.does c.args.self.now c.read_array.new.memory c.read_array-2.new.memory c.hear.new.self c.hear.new.memory
-    done denied c.args.tag c.in-Ok.header (Some c.in-Some.fis)
+    done heard c.args.tag c.in-Ok.header (Some c.in-Some.fis)
     (rw (c.from.ensures, c.in-Some.is) at c.read_array-2.ensures)
-    (fetch_hears g.M.HostMemory.does c.args.self.now c.read_array-2.new.memory c.hear.new.self c.hear.new.memory done denied c.args.tag c.in-Ok.header
+    (fetch_hears g.M.HostMemory.does c.args.self.now c.read_array-2.new.memory c.hear.new.self c.hear.new.memory done heard c.args.tag c.in-Ok.header
     c.in-Some.fis c.place_of-place.result (sym c.is_command.ensures ∙ c.if-not-is_command.false) c.place_of-place.ensures.value t)))
     c.hear.ensures.done
 

@@ -19,7 +19,7 @@ returns-clause-done g c =
     if_turned g.M.HostMemory.does (λ o a. HearsIf a.registers.in_reset o a c.args.place c.args.tag c.args.fis.now)
     (λ o a. Executes o a c.args.place c.args.tag c.args.fis.now)
     c.args.self.now c.args.memory.now c.args.memory.now c.execute.new.self c.execute.new.memory c.execute.result
-    (λ done denied t.
-    hears g.M.HostMemory.does c.args.self.now c.args.memory.now c.execute.new.self c.execute.new.memory done denied c.args.place c.args.tag c.args.fis.now
+    (λ done heard t.
+    hears g.M.HostMemory.does c.args.self.now c.args.memory.now c.execute.new.self c.execute.new.memory done heard c.args.place c.args.tag c.args.fis.now
     (ap (λ (s : State). s.registers.in_reset) (sym c.self.view_is) ∙ c.if-self.false) t)
     c.execute.ensures.done
