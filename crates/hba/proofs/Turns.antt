@@ -32,7 +32,7 @@ use Rattle.hba.specs.declared.work.TurnedHeard.{TurnedHeard}
 use Rattle.hba.specs.declared.work.Outcome.{Outcome}
 use Rattle.hba.specs.declared.work.Done.TheVariants as dones
 use Rattle.hba.specs.Showing.{fault_of, arrived, fetching}
-use Rattle.hba.specs.History.{Operation, Wrote, Powered, Signed, Missed, Controlled, Asserted, Restarted, Unheard, Fetched, Completed, Account, State, HasActed, AgreesHba, Adds, account, acts_of, regs_of, effect_after, IsDenied, IsHeard, IsHeardOf, denied_in}
+use Rattle.hba.specs.History.{Operation, Wrote, Powered, Signed, Missed, Controlled, Asserted, Restarted, Unheard, Fetched, Completed, Account, State, HasActed, AgreesHba, Adds, account, acts_of, regs_of, effect_after, TellsDenial, IsHeard, IsHeardOf, denial_heard}
 use Rattle.hba.specs.Ready.{ready_on, picked}
 use Rattle.hba.specs.Engine.{header_at, fises_at, place_of, IsEffect, ServesSo, Executes, Controls, HearsIf, FetchesIf, FetchesFis, FetchesFrom, Fetches, CompletesFrom, Completes, Signs, signature_fis, IsWork, done_of, TurnsAs, TurnsBy, TurnsTo, HearsTo, HasRun, Runs, HasStopped}
 use Rattle.hba.proofs.Works.{ready_same}
@@ -103,36 +103,36 @@ turn_less does Did old before new after done Told Less step t = (
 )
 
 denied_of : (heard : Option Heard) (fis payload : List ℕ) (event : Event) → IsHeardOf heard fis payload event
-    → denied_in heard ≡ event.denied
+    → denial_heard heard ≡ event.denied
 denied_of None fis payload event h = absurd h
 denied_of (Some heard) fis payload event h = h.denied
 
 denied_so : (heard : Option Heard) (o : Origin) (a : Account) (operation : Operation)
-    → IsHeard heard o a operation → IsDenied (denied_in heard) o a operation
+    → IsHeard heard o a operation → TellsDenial (denial_heard heard) o a operation
 denied_so heard o a (Fetched tag fis payload arrival) h =
     denied_of heard fis payload (effect_after o a (Accept fis payload)).event h
-denied_so heard o a (Wrote offset value) h = ap denied_in h
-denied_so heard o a Powered h = ap denied_in h
-denied_so heard o a Signed h = ap denied_in h
-denied_so heard o a (Missed fetched miss) h = ap denied_in h
-denied_so heard o a (Controlled tag) h = ap denied_in h
-denied_so heard o a (Asserted tag) h = ap denied_in h
-denied_so heard o a (Restarted tag) h = ap denied_in h
-denied_so heard o a (Unheard tag) h = ap denied_in h
-denied_so heard o a (Completed tag payload arrival) h = ap denied_in h
+denied_so heard o a (Wrote offset value) h = ap denial_heard h
+denied_so heard o a Powered h = ap denial_heard h
+denied_so heard o a Signed h = ap denial_heard h
+denied_so heard o a (Missed fetched miss) h = ap denial_heard h
+denied_so heard o a (Controlled tag) h = ap denial_heard h
+denied_so heard o a (Asserted tag) h = ap denial_heard h
+denied_so heard o a (Restarted tag) h = ap denial_heard h
+denied_so heard o a (Unheard tag) h = ap denial_heard h
+denied_so heard o a (Completed tag payload arrival) h = ap denial_heard h
 
 -- Of a command that is told, what denied it.
 pub turn_denied : {M : Type 0} (does : M → Access → M → Type 0) (old : State) (before : M) (new last : State)
     (after : M) (turned : TurnedHeard) (less : Turned) → last ≡ new → less.work ≡ turned.work
-    → less.done ≡ turned.done → less.denied ≡ denied_in turned.heard
+    → less.done ≡ turned.done → less.denied ≡ denial_heard turned.heard
     → HearsTo does old before new after turned → TurnsTo does old before last after less
 turn_denied does old before new last after turned less e w d n t =
     subst (λ (s : State). TurnsTo does old before s after less) (sym e)
-    (subst (λ (work : Work). TurnsBy does work old before new after less.done (IsDenied less.denied)) (sym w)
-    (subst (λ (done : Done). TurnsBy does turned.work old before new after done (IsDenied less.denied)) (sym d)
-    (subst (λ (why : Option Why). TurnsBy does turned.work old before new after turned.done (IsDenied why)) (sym n)
+    (subst (λ (work : Work). TurnsBy does work old before new after less.done (TellsDenial less.denied)) (sym w)
+    (subst (λ (done : Done). TurnsBy does turned.work old before new after done (TellsDenial less.denied)) (sym d)
+    (subst (λ (why : Option Why). TurnsBy does turned.work old before new after turned.done (TellsDenial why)) (sym n)
     (turn_less does (IsWork turned.work) old before new after turned.done (IsHeard turned.heard)
-    (IsDenied (denied_in turned.heard)) (denied_so turned.heard) t))))
+    (TellsDenial (denial_heard turned.heard)) (denied_so turned.heard) t))))
 
 -- Nothing more is asked.
 pub turn_missed : {M : Type 0} (does : M → Access → M → Type 0)

@@ -28,7 +28,7 @@ use Rattle.host_memory.specs.declared.hba_memory.delivery.Place.{Place}
 use Rattle.slots.specs.Table.{is_command}
 use Rattle.host_memory.specs.Memory.{header_by, descriptors_of, moved_by, Gathers, PostsTo, Delivers}
 use Rattle.hba.specs.Showing.{fault_of}
-use Rattle.hba.specs.History.{Operation, Wrote, Powered, Signed, Missed, Controlled, Asserted, Restarted, Unheard, Fetched, Completed, Account, State, AgreesHba, account, effect_after, IsDenied, IsHeard}
+use Rattle.hba.specs.History.{Operation, Wrote, Powered, Signed, Missed, Controlled, Asserted, Restarted, Unheard, Fetched, Completed, Account, State, AgreesHba, account, effect_after, TellsDenial, IsHeard}
 use Rattle.hba.specs.Ready.{picked, ready_after}
 use Rattle.hba.specs.SoftwareReset.{resets_behind}
 
@@ -214,7 +214,7 @@ TurnsBy does work old before new after done Told =
 abbrev pub TurnsTo : {M : Type 0} → (M → Access → M → Type 0) → State → M → State → M → Turned
     → Type 0
 TurnsTo does old before new after turned =
-    TurnsBy does turned.work old before new after turned.done (IsDenied turned.denied)
+    TurnsBy does turned.work old before new after turned.done (TellsDenial turned.denied)
 
 -- With the whole command.
 abbrev pub HearsTo : {M : Type 0} → (M → Access → M → Type 0) → State → M → State → M

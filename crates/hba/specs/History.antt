@@ -120,8 +120,8 @@ operation_denied o a (Fetched tag fis payload arrival) =
 operation_denied o a _ = None
 
 -- That denial is told.
-abbrev pub IsDenied : Option Why → Origin → Account → Operation → Type 0
-IsDenied denied o a operation = denied ≡ operation_denied o a operation
+abbrev pub TellsDenial : Option Why → Origin → Account → Operation → Type 0
+TellsDenial denied o a operation = denied ≡ operation_denied o a operation
 
 -- The command that the drive was given is told: its FIS as it is read, what came with it, and by what its event was
 -- refused, if it was.
@@ -142,9 +142,9 @@ IsHeard heard o a (Fetched tag fis payload arrival) =
 IsHeard heard o a _ = heard ≡ None
 
 -- What denied the command that is told.
-abbrev pub denied_in : Option Heard → Option Why
-denied_in None = None
-denied_in (Some heard) = heard.denied
+abbrev pub denial_heard : Option Heard → Option Why
+denial_heard None = None
+denial_heard (Some heard) = heard.denied
 
 -- Whatever list the HBA agreed with, it agrees with that list and the operation in front.
 abbrev pub Adds : Operation → State → State → Type 0

@@ -10,7 +10,7 @@ use host_memory::HostMemory;
 use std::alloc::AllocError;
 
 impl Hba {
-    ghost use Rattle.hba.specs.History.{denied_in};
+    ghost use Rattle.hba.specs.History.{denial_heard};
     ghost use Rattle.hba.specs.Engine.{TurnsTo, HearsTo, Runs, HasStopped};
     ghost use Rattle.hba.specs.Ready.{is_ready_on, ready_on, picked, takes_memory, picks_memory};
 
@@ -37,7 +37,7 @@ impl Hba {
 
     /// What denied a command that was told; its bytes are taken back.
     fn denial_in(&mut self, heard: Option<Heard>) -> Option<Why>
-        ensures denied { result ≡ denied_in heard }
+        ensures denied { result ≡ denial_heard heard }
         ensures same { self.new ≡ self.old }
     {
         let heard = heard?;
@@ -49,7 +49,7 @@ impl Hba {
     fn without_command(&mut self, turned: TurnedHeard) -> Turned
         ensures work { result.work ≡ turned.work }
         ensures done { result.done ≡ turned.done }
-        ensures denied { result.denied ≡ denied_in turned.heard }
+        ensures denied { result.denied ≡ denial_heard turned.heard }
         ensures same { self.new ≡ self.old }
     {
         let denied = self.denial_in(turned.heard);
@@ -128,15 +128,15 @@ impl Hba {
     ) -> Result<Option<Turned>, AllocError>
         ensures done { IfOk result (λ turned. IfSome turned (λ t.
             TurnsTo M.does self.old memory.old self.new memory.new t)) }
-        ensures picked { IfOk result (λ turned. IfSome turned (λ t.
-            picked choice (ready_on self.old) ≡ Some t.work)) }
         ensures idle { IfOk result (λ turned. turned ≡ None → ready_on self.old ≡ []) }
         ensures still { IfOk result (λ turned. turned ≡ None → self.new ≡ self.old) }
         ensures none_moved { IfOk result (λ turned. turned ≡ None → memory.new ≡ memory.old) }
-        ensures refused { OnErr result
-            (picks_memory (picked choice (ready_on self.old)) ≡ true) }
+        ensures picked { IfOk result (λ turned. IfSome turned (λ t.
+            picked choice (ready_on self.old) ≡ Some t.work)) }
         ensures err { OnErr result (self.new ≡ self.old) }
         ensures kept { OnErr result (OnlyReads M.does memory.old memory.new) }
+        ensures refused { OnErr result
+            (picks_memory (picked choice (ready_on self.old)) ≡ true) }
     {
         let told = self.turn_heard(choice, memory)?;
         match told {

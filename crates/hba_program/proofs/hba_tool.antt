@@ -1,3 +1,4 @@
 mod Rows
 mod Steps
 mod Writers
+mod Refusals

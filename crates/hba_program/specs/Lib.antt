@@ -8,4 +8,5 @@ pub mod Pipes
 pub mod Wires
 pub mod Openings
 pub mod Sayings
+pub mod Explained
 pub mod Steps

@@ -1,19 +1,19 @@
 -- What a controller does for a host: each request, and the lines of a host to their end.
-use Rattle.std.specs.Prelude.{◌≡◌, ℕ, zero, suc, ◌-◌, ◌^◌, ◌<◌, nat_lt, ◌||◌, ◌⊎◌, Bool, true, false, List, [], ◌∷◌, ◌++◌, length, Option, None, Some, IfSome, Result, Ok, Err, if◌then◌else◌}
+use Rattle.std.specs.Prelude.{◌≡◌, ℕ, zero, suc, ◌+◌, ◌-◌, ◌^◌, ◌<◌, nat_lt, ◌||◌, ◌⊎◌, Bool, true, false, List, [], ◌++◌, length, Option, None, Some, IfSome, Result, Ok, Err, if◌then◌else◌}
 use Rattle.std.specs.Io.BufRead.{strip_last}
 use Rattle.std.specs.Io.KnownBytes.{Appends}
 use Rattle.shadow_mbr.specs.Stored.{sector_at}
-use Rattle.audit.specs.declared.reason.AuditLine.{AuditLine}
+use Rattle.drive_scripts.specs.Kept.{KeptReasons}
 use Rattle.history.specs.Opening.{Origin}
 use Rattle.drive.specs.State.{DriveState, Agrees}
-use Rattle.hba.specs.History.{State, Operation, Wrote, Powered, Adds, AgreesHba}
+use Rattle.hba.specs.History.{State, Operation, Wrote, Powered, Adds, AgreesHba, denial_heard}
 use Rattle.hba.specs.Registers.{word_at, line}
 use Rattle.hba.specs.Ready.{ready_on, picked}
-use Rattle.hba.specs.Engine.{TurnsTo}
-use Rattle.hba.specs.declared.work.Turned.{Turned}
+use Rattle.hba.specs.Engine.{HearsTo}
+use Rattle.hba.specs.declared.work.TurnedHeard.{TurnedHeard}
 use Rattle.hba_program.specs.Replies.{reply_line, error_line}
 use Rattle.hba_program.specs.Requests.{host_request, request_fault_text}
-use Rattle.hba_program.specs.declared.hba_lines.reply.Reply.{Reply}
+use Rattle.hba_program.specs.declared.hba_tool.session.Told.{Told}
 use Rattle.hba_program.specs.declared.hba_lines.reply.Reply.TheVariants as says
 use Rattle.hba_program.specs.declared.hba_lines.request.Request.{Request}
 use Rattle.hba_program.specs.declared.hba_lines.request.Request.TheVariants as asks
@@ -22,18 +22,21 @@ use Rattle.hba_program.specs.Wires.{Accesses, left_of, SameWriter, SameMarks, Ta
 use Rattle.hba_program.specs.declared.hba_wire.wire.Wire.{Wire}
 use Rattle.sp_cells.specs.Config.{Config}
 use Rattle.hba_program.specs.Openings.{option_rows, OpensAs}
-use Rattle.hba_program.specs.Sayings.{work_tag, work_reply, denials_text, sector_line, kept_denial}
+use Rattle.hba_program.specs.Sayings.{DeniedCommand, work_tag, work_reply, work_text, denials_text, sector_line, kept_denial}
+use Rattle.hba_program.specs.Explained.{source_at, ExplainsOperation, StartsTelling}
 use Rattle.hba_program.specs.declared.hba_tool.session.Session.{Session}
 
--- a controller, the denials that were not told, and the pipe to its host
+-- a controller, what is kept where reasons are told, the denials that were not told, and the pipe to its host
 pub record Stand (R W : Type 0) : Type 0 where
   pub hba : State
-  pub denials : List AuditLine
+  pub kept : Option KeptReasons
+  pub denials : List DeniedCommand
   pub wire : Wire R W
 
 abbrev pub stand : {R W : Type 0} → Session → Wire R W → Stand R W
 stand session wire = record {
   hba = session.hba;
+  kept = session.explainer;
   denials = session.denials.items;
   wire = wire;
 }
@@ -50,20 +53,24 @@ pub record SaysLines {R W : Type 0} (remaining : R → Option (List ℕ))
 pub record TellsHost {R W : Type 0} (remaining : R → Option (List ℕ))
     (contents : W → Option (List ℕ)) (text : List ℕ) (before after : Stand R W) : Type 0 where
   pub hba : after.hba ≡ before.hba
+  pub kept : after.kept ≡ before.kept
   pub denials : after.denials ≡ before.denials
   pub says : SaysLines remaining contents text before.wire after.wire
 
--- a work is done over the pipe, where no call of a stream failed; its last line is this, and what
--- denied it is kept
+-- a work is done over the pipe in the request of a number, where no call of a stream failed; its last line is this, what
+-- denied it is kept, and, if reasons are told, so is why the command of its operation was refused
 pub record Works {R W : Type 0} (remaining : R → Option (List ℕ)) (contents : W → Option (List ℕ))
-    (choice : ℕ) (reply : Reply) (before after : Stand R W) : Type 0 where
-  pub turned : Turned
+    (number choice : ℕ) (told : Told) (before after : Stand R W) : Type 0 where
+  pub turned : TurnedHeard
   pub is_picked : picked choice (ready_on before.hba) ≡ Some turned.work
-  pub does : TurnsTo (Accesses remaining contents) before.hba before.wire after.hba after.wire
+  pub does : HearsTo (Accesses remaining contents) before.hba before.wire after.hba after.wire
       turned
-  pub is_reply : reply ≡ work_reply turned.work turned.done
+  pub is_reply : told.reply ≡ work_reply turned.work turned.done
+  pub explains : ExplainsOperation (source_at number (work_tag turned.work)) before.kept after.kept
+      before.hba does.1 told.reasons.items
   pub keeps : after.denials
-      ≡ before.denials ++ kept_denial after.hba.acts (work_tag turned.work) turned.denied
+      ≡ before.denials ++ kept_denial after.hba.acts (work_tag turned.work)
+      (denial_heard turned.heard) told.reasons.items
   pub stands : after.wire.failure ≡ None
 
 -- none is ready, and nothing changes
@@ -72,15 +79,11 @@ pub record Rests {R W : Type 0} (before after : Stand R W) : Type 0 where
   pub same : after ≡ before
 
 -- the work of a number is done, or none is ready
-abbrev pub WorksIf : {R W : Type 0} → (R → Option (List ℕ)) → (W → Option (List ℕ)) → ℕ
-    → Option Reply → Stand R W → Stand R W → Type 0
-WorksIf remaining contents choice None before after = Rests before after
-WorksIf remaining contents choice (Some reply) before after =
-    Works remaining contents choice reply before after
-
-abbrev pub reply_or_idle : Option Reply → Reply
-reply_or_idle None = says.Idle
-reply_or_idle (Some reply) = reply
+abbrev pub WorksIf : {R W : Type 0} → (R → Option (List ℕ)) → (W → Option (List ℕ)) → ℕ → ℕ
+    → Option Told → Stand R W → Stand R W → Type 0
+WorksIf remaining contents number choice None before after = Rests before after
+WorksIf remaining contents number choice (Some told) before after =
+    Works remaining contents number choice told before after
 
 -- a line is said, unless the input ended before
 abbrev pub TellsUnless : {R W : Type 0} → (R → Option (List ℕ)) → (W → Option (List ℕ)) → Bool
@@ -89,38 +92,39 @@ TellsUnless remaining contents true text before after = after ≡ before
 TellsUnless remaining contents false text before after =
     TellsHost remaining contents text before after
 
--- the work of a number is done, and its last line said
+-- the work of a number is done, and its last line said, with what is told of its command
 pub record Turns {R W : Type 0} (remaining : R → Option (List ℕ)) (contents : W → Option (List ℕ))
-    (choice : ℕ) (before after : Stand R W) : Type 0 where
-  pub told : Option Reply
+    (number choice : ℕ) (before after : Stand R W) : Type 0 where
+  pub told : Option Told
   pub middle : Stand R W
-  pub works : WorksIf remaining contents choice told before middle
-  pub tells : TellsUnless remaining contents middle.wire.is_cut_off
-      (reply_line (reply_or_idle told)) middle after
+  pub works : WorksIf remaining contents number choice told before middle
+  pub tells : TellsUnless remaining contents middle.wire.is_cut_off (work_text told) middle after
 
 -- so many turns, each with the first work
 unfoldable pub TurnsOn : {R W : Type 0} → (R → Option (List ℕ)) → (W → Option (List ℕ)) → ℕ
-    → Stand R W → Stand R W → Type 0
-TurnsOn remaining contents zero before after = after ≡ before
-TurnsOn {R} {W} remaining contents (suc n) before after =
-    (middle : Stand R W) × TurnsOn remaining contents n before middle
-    × Turns remaining contents 0 middle after
+    → ℕ → Stand R W → Stand R W → Type 0
+TurnsOn remaining contents number zero before after = after ≡ before
+TurnsOn {R} {W} remaining contents number (suc n) before after =
+    (middle : Stand R W) × TurnsOn remaining contents number n before middle
+    × Turns remaining contents number 0 middle after
 
 -- turns until none is ready, which is told, or until the input ended
 pub record RunsOut {R W : Type 0} (remaining : R → Option (List ℕ)) (contents : W → Option (List ℕ))
-    (before after : Stand R W) : Type 0 where
+    (number : ℕ) (before after : Stand R W) : Type 0 where
   pub count : ℕ
   pub middle : Stand R W
-  pub turns : TurnsOn remaining contents count before middle
+  pub turns : TurnsOn remaining contents number count before middle
   pub tells : TellsUnless remaining contents middle.wire.is_cut_off
       (reply_line (says.Ran count)) middle after
   pub idle : middle.wire.is_cut_off ≡ false → count < 2 ^ 32 - 1 → ready_on middle.hba ≡ []
 
 -- the host's write, or a power cycle, is done
 pub record Operates {R W : Type 0} (remaining : R → Option (List ℕ))
-    (contents : W → Option (List ℕ)) (operation : Operation) (before after : Stand R W)
-    : Type 0 where
+    (contents : W → Option (List ℕ)) (number : ℕ) (operation : Operation)
+    (before after : Stand R W) : Type 0 where
   pub adds : Adds operation before.hba after.hba
+  pub explains : ExplainsOperation (source_at number 0) before.kept after.kept before.hba
+      operation []
   pub denials : after.denials ≡ before.denials
   pub says : SaysLines remaining contents (reply_line says.Done) before.wire after.wire
 
@@ -128,6 +132,7 @@ pub record Operates {R W : Type 0} (remaining : R → Option (List ℕ))
 pub record TellsWhy {R W : Type 0} (remaining : R → Option (List ℕ))
     (contents : W → Option (List ℕ)) (before after : Stand R W) : Type 0 where
   pub hba : after.hba ≡ before.hba
+  pub kept : after.kept ≡ before.kept
   pub denials : after.denials ≡ []
   pub says : SaysLines remaining contents (reply_line (says.Denials (length before.denials))
       ++ denials_text before.denials) before.wire after.wire
@@ -139,21 +144,23 @@ sector_text drive lba =
     else reply_line says.NoSector
 
 -- a request is answered
-abbrev pub AnswersHost : {R W : Type 0} → (R → Option (List ℕ)) → (W → Option (List ℕ)) → Request
-    → Stand R W → Stand R W → Type 0
-AnswersHost remaining contents (asks.Read offset) before after = TellsHost remaining contents
+abbrev pub AnswersHost : {R W : Type 0} → (R → Option (List ℕ)) → (W → Option (List ℕ)) → ℕ
+    → Request → Stand R W → Stand R W → Type 0
+AnswersHost remaining contents number (asks.Read offset) before after = TellsHost remaining contents
     (reply_line (says.Word (word_at before.hba.registers offset))) before after
-AnswersHost remaining contents (asks.Write offset value) before after =
-    Operates remaining contents (Wrote offset value) before after
-AnswersHost remaining contents (asks.Turn choice) before after =
-    Turns remaining contents choice before after
-AnswersHost remaining contents asks.Run before after = RunsOut remaining contents before after
-AnswersHost remaining contents asks.Interrupt before after = TellsHost remaining contents
+AnswersHost remaining contents number (asks.Write offset value) before after =
+    Operates remaining contents number (Wrote offset value) before after
+AnswersHost remaining contents number (asks.Turn choice) before after =
+    Turns remaining contents number choice before after
+AnswersHost remaining contents number asks.Run before after =
+    RunsOut remaining contents number before after
+AnswersHost remaining contents number asks.Interrupt before after = TellsHost remaining contents
     (reply_line (says.Line (line before.hba.registers))) before after
-AnswersHost remaining contents asks.Why before after = TellsWhy remaining contents before after
-AnswersHost remaining contents asks.PowerCycle before after =
-    Operates remaining contents Powered before after
-AnswersHost remaining contents (asks.Sector lba) before after =
+AnswersHost remaining contents number asks.Why before after =
+    TellsWhy remaining contents before after
+AnswersHost remaining contents number asks.PowerCycle before after =
+    Operates remaining contents number Powered before after
+AnswersHost remaining contents number (asks.Sector lba) before after =
     TellsHost remaining contents (sector_text before.hba.drive lba) before after
 
 -- the host is told that a line is none
@@ -161,6 +168,7 @@ pub record Complains {R W : Type 0} (remaining : R → Option (List ℕ))
     (contents : W → Option (List ℕ)) (fault : RequestFault) (before after : Stand R W)
     : Type 0 where
   pub hba : after.hba ≡ before.hba
+  pub kept : after.kept ≡ before.kept
   pub denials : after.denials ≡ before.denials
   pub said : Appends (contents before.wire.output.now) (contents after.wire.output.now)
       (error_line (request_fault_text fault))
@@ -171,17 +179,18 @@ pub record Complains {R W : Type 0} (remaining : R → Option (List ℕ))
   pub failure : after.wire.failure ≡ before.wire.failure
 
 -- what a line asks for is done, or the host is told that it is none
-abbrev pub DoesLine : {R W : Type 0} → (R → Option (List ℕ)) → (W → Option (List ℕ))
+abbrev pub DoesLine : {R W : Type 0} → (R → Option (List ℕ)) → (W → Option (List ℕ)) → ℕ
     → Result Request RequestFault → Stand R W → Stand R W → Type 0
-DoesLine remaining contents (Ok request) before after =
-    AnswersHost remaining contents request before after
-DoesLine remaining contents (Err fault) before after =
+DoesLine remaining contents number (Ok request) before after =
+    AnswersHost remaining contents number request before after
+DoesLine remaining contents number (Err fault) before after =
     Complains remaining contents fault before after
 
 -- the next line is read, and nothing is written
 pub record ReadsLine {R W : Type 0} (remaining : R → Option (List ℕ)) (is_line : Bool)
     (before after : Stand R W) : Type 0 where
   pub hba : after.hba ≡ before.hba
+  pub kept : after.kept ≡ before.kept
   pub denials : after.denials ≡ before.denials
   pub taken : IfSome (left_of remaining before.wire)
       (λ text. TakesOne is_line after.wire.line.items text (left_of remaining after.wire))
@@ -189,19 +198,21 @@ pub record ReadsLine {R W : Type 0} (remaining : R → Option (List ℕ)) (is_li
   pub unwritten : after.wire.output.now ≡ before.wire.output.now
   pub marks : SameMarks before.wire after.wire
 
--- what the line at hand asks for is done
-abbrev pub DoesHere : {R W : Type 0} → (R → Option (List ℕ)) → (W → Option (List ℕ))
+-- what the line at hand asks for is done, as the request of a number
+abbrev pub DoesHere : {R W : Type 0} → (R → Option (List ℕ)) → (W → Option (List ℕ)) → ℕ
     → Stand R W → Stand R W → Type 0
-DoesHere remaining contents before after =
-    DoesLine remaining contents (host_request (strip_last 10 before.wire.line.items)) before after
+DoesHere remaining contents number before after =
+    DoesLine remaining contents number (host_request (strip_last 10 before.wire.line.items))
+    before after
 
--- so many lines are read, each done before the next; the input did not end in one before the last
+-- so many lines are read, each done before the next; the input did not end in one before the last. They are counted from 1
 unfoldable pub DoesLines : {R W : Type 0} → (R → Option (List ℕ)) → (W → Option (List ℕ)) → ℕ
     → Stand R W → Stand R W → Type 0
 DoesLines remaining contents zero before after = after ≡ before
 DoesLines {R} {W} remaining contents (suc n) before after =
     (middle : Stand R W) × (reading : Stand R W) × DoesLines remaining contents n before middle
-    × ReadsLine remaining true middle reading × DoesHere remaining contents reading after
+    × ReadsLine remaining true middle reading
+    × DoesHere remaining contents (n + 1) reading after
 
 -- the status: 2 where the input ended in a work, or a line was none
 abbrev pub lines_status : {R W : Type 0} → Wire R W → ℕ
@@ -225,9 +236,10 @@ pub record DoesAll {R W : Type 0} (remaining : R → Option (List ℕ)) (content
 
 -- at the start: the whole input is left, nothing is said, and the controller is over this drive
 pub record StartsServing {R W : Type 0} (remaining : R → Option (List ℕ))
-    (contents : W → Option (List ℕ)) (drive : DriveState) (input written : Option (List ℕ))
-    (first : Stand R W) : Type 0 where
+    (contents : W → Option (List ℕ)) (explains : Bool) (drive : DriveState)
+    (input written : Option (List ℕ)) (first : Stand R W) : Type 0 where
   pub hba : (o : Origin) → Agrees drive o [] → AgreesHba first.hba o []
+  pub kept : StartsTelling explains first.kept drive
   pub denials : first.denials ≡ []
   pub left : left_of remaining first.wire ≡ input
   pub unwritten : contents first.wire.output.now ≡ written
@@ -235,20 +247,20 @@ pub record StartsServing {R W : Type 0} (remaining : R → Option (List ℕ))
   pub complained : first.wire.has_complained ≡ false
   pub failure : first.wire.failure ≡ None
 
--- A host is served to the end of its lines: `input` is what it said, `old` and `new` are what the writer
--- held before and behind.
+-- A host is served to the end of its lines, with reasons or without: `input` is what it said, `old` and `new` are what the
+-- writer held before and behind.
 pub record ServesHost {R W : Type 0} (remaining : R → Option (List ℕ))
-    (contents : W → Option (List ℕ)) (drive : DriveState) (input : Option (List ℕ)) (status : ℕ)
-    (old new : Option (List ℕ)) : Type 0 where
+    (contents : W → Option (List ℕ)) (explains : Bool) (drive : DriveState)
+    (input : Option (List ℕ)) (status : ℕ) (old new : Option (List ℕ)) : Type 0 where
   pub first : Stand R W
   pub last : Stand R W
-  pub starts : StartsServing remaining contents drive input old first
+  pub starts : StartsServing remaining contents explains drive input old first
   pub does : DoesAll remaining contents status first last
   pub written : contents last.wire.output.now ≡ new
 
 -- the same by the controller of a drive that the configuration and the texts of ranges open
-abbrev pub ServesOpened : {R W : Type 0} → (R → Option (List ℕ)) → (W → Option (List ℕ)) → Config
-    → List (List ℕ) → Option (List ℕ) → ℕ → Option (List ℕ) → Option (List ℕ) → Type 0
-ServesOpened remaining contents config ranges input status old new =
+abbrev pub ServesOpened : {R W : Type 0} → (R → Option (List ℕ)) → (W → Option (List ℕ)) → Bool
+    → Config → List (List ℕ) → Option (List ℕ) → ℕ → Option (List ℕ) → Option (List ℕ) → Type 0
+ServesOpened remaining contents explains config ranges input status old new =
     (o : Origin) × (drive : DriveState) × OpensAs config (option_rows ranges) o
-    × Agrees drive o [] × ServesHost remaining contents drive input status old new
+    × Agrees drive o [] × ServesHost remaining contents explains drive input status old new

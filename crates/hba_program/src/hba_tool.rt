@@ -1,5 +1,6 @@
 //! A controller over standard streams: it does what a host asks for, line by line.
 
+mod explaining;
 mod opening;
 mod serving;
 mod session;

@@ -28,11 +28,12 @@ pub struct LoadTexts<'a> {
     pub rounds: &'a str,
 }
 
-/// The options of a controller's drive, as they are written.
+/// The options of a controller, as they are written.
 #[derive(Drop)]
 pub struct HbaTexts<'a> {
     pub drive: DriveTexts<'a>,
     pub ranges: Vec<&'a str>,
+    pub explains: bool,
 }
 
 /// The options of an exploration, as they are written.
@@ -84,6 +85,9 @@ pub enum Request<'a> {
     /// To run all short lists of the lines of a script.
     Explore(ExploreTexts<'a>),
 }
+
+/// What `--explain` does.
+const EXPLAINED: &str = "Tells each refusal with its reason, and what would lift it";
 
 /// What `run --help` says of lines and statuses.
 const LINES: &str = "\
@@ -284,10 +288,9 @@ fn drive_command<'a>(
 fn run_command<'a>(alloc: Global) -> Result<Command<'a>, AllocError>
     ensures { IfOk result (λ command. app_of command ≡ run_line) }
 {
-    let explain = "Tells each refusal with its reason, and what would lift it";
     let vcd = "Writes the waveforms of the run there, while it runs";
     let c = drive_command(alloc, "run", "Runs a script from standard input", LINES)?;
-    let c = with_flag(c, alloc, "explain", explain)?;
+    let c = with_flag(c, alloc, "explain", EXPLAINED)?;
     with_free_option(c, alloc, "vcd", "FILE", vcd)
 }
 
@@ -340,7 +343,8 @@ fn hba_command<'a>(alloc: Global) -> Result<Command<'a>, AllocError>
     ensures { IfOk result (λ command. app_of command ≡ hba_line) }
 {
     let about = "Serves a host over standard input and output, as an AHCI controller";
-    with_ranges(drive_command(alloc, "hba", about, CONTROLLER_LINES)?, alloc)
+    let c = with_ranges(drive_command(alloc, "hba", about, CONTROLLER_LINES)?, alloc)?;
+    with_flag(c, alloc, "explain", EXPLAINED)
 }
 
 /// The command that runs all short lists of the lines of a script, with the options that say on which drive, how long a
@@ -501,16 +505,22 @@ fn decode_texts<'a>(matches: &ArgMatches<'a>) -> DecodeTexts<'a>
     }
 }
 
-/// The options of a controller's drive.
+/// The options of a controller.
 fn hba_texts<'a>(alloc: Global, matches: &ArgMatches<'a>) -> Result<HbaTexts<'a>, AllocError>
     ensures drive { IfOk result (λ texts. drive_text texts.drive
         ≡ drive_in (rows_of (found_of matches.now))) }
     ensures ranges { IfOk result (λ texts. map (λ s. s.now) texts.ranges.items
         ≡ range_texts (rows_of (found_of matches.now))) }
+    ensures explains { IfOk result (λ texts. texts.explains
+        ≡ has_flag (codes "explain") (rows_of (found_of matches.now))) }
 {
     let ranges = Vec::from_slice(alloc, matches.get_strs("range").unwrap_or(&[]))?;
     let drive = drive_texts(matches);
-    Ok(HbaTexts { drive, ranges })
+    Ok(HbaTexts {
+        drive,
+        ranges,
+        explains: has_flag(matches, "explain"),
+    })
 }
 
 /// What the matches of a command line ask for.

@@ -16,17 +16,18 @@ fn on_drive<R: Read + Drop, W: Write, E: Write>(
     alloc: Global,
     options: &Options,
     ranges: &[&str],
+    explains: bool,
     input: R,
     output: &mut W,
     faults: &mut E,
 ) -> Result<u8, ProgramError>
     ensures most { IfOk result (λ status. status ≤ 2) }
-    ensures ends { IfOk result (λ status. ControllerEnds R.remaining W.contents options.now
+    ensures ends { IfOk result (λ status. ControllerEnds R.remaining W.contents explains options.now
         (map (λ s. s.now) ranges.now) (R.remaining input) status (W.contents output.old)
         (W.contents output.new)) }
 {
     match drive_with_ranges(alloc, options.config(), ranges) {
-        Ok(drive) => Ok(serve(alloc, input, output, drive)?),
+        Ok(drive) => Ok(serve(alloc, input, output, drive, explains)?),
         Err(RangeFault::OutOfMemory) => Err(ProgramError::Run(RunError::Memory)),
         Err(fault) => {
             writeln!(faults, "error: {fault}").map_err(|_| RunError::Write)?;
@@ -44,12 +45,15 @@ pub(crate) fn serve_controller<R: Read + Drop, W: Write, E: Write>(
     faults: &mut E,
 ) -> Result<u8, ProgramError>
     ensures most { IfOk result (λ status. status ≤ 2) }
-    ensures ends { IfOk result (λ status. HbaEnds R.remaining W.contents
+    ensures ends { IfOk result (λ status. HbaEnds R.remaining W.contents texts.now.explains
         (drive_text texts.now.drive) (map (λ s. s.now) texts.now.ranges.items)
         (R.remaining input) status (W.contents output.old) (W.contents output.new)) }
 {
     match Options::parse(alloc, &texts.drive) {
-        Ok(options) => on_drive(alloc, &options, &texts.ranges, input, output, faults),
+        Ok(options) => {
+            let explains = texts.explains;
+            on_drive(alloc, &options, &texts.ranges, explains, input, output, faults)
+        }
         Err(OptionsFault::OutOfMemory) => Err(ProgramError::Run(RunError::Memory)),
         Err(fault) => {
             writeln!(faults, "error: {fault}").map_err(|_| RunError::Write)?;

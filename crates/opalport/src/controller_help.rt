@@ -18,6 +18,7 @@ In turn and run the host's memory is asked for by lines, each of which the host 
   m ADDRESS LENGTH  the bytes in hex, two digits each, or none
   p ADDRESS HEX     ok, or none where a byte of it is no memory
 
-A line that is none of these is answered by error TEXT.
+A line that is none of these is answered by error TEXT. With --explain lines that begin with because or lifted
+by stand behind the last line of a work whose command was refused, and behind each audit line of why.
 
 Status: 0 done, 2 an error line, an end where an answer was due, bad usage or an error";

@@ -1,7 +1,7 @@
 -- The writer of a pipe stays the caller's, whatever a host is served.
-use Rattle.std.proofs.Common.{◌≡◌, ℕ, zero, suc, Bool, true, false, List, [], ◌∷◌, Option, Some, None, Result, Ok, Err, ◌⊎◌, inl, inr, refl, sym, ap, ◌∙◌}
-use Rattle.host_memory.specs.Access.{Access, Asked, Laid, Accessed, IsAccess, IsAccessIf}
-use Rattle.hba_program.specs.declared.hba_lines.reply.Reply.{Reply}
+use Rattle.std.proofs.Common.{◌≡◌, ℕ, zero, suc, Bool, true, false, List, [], ◌∷◌, Option, Some, None, Result, Ok, Err, inl, inr, ap, ◌∙◌}
+use Rattle.host_memory.specs.Access.{Access, Asked, Laid, Accessed, IsAccessIf}
+use Rattle.hba_program.specs.declared.hba_tool.session.Told.{Told}
 use Rattle.hba_program.specs.declared.hba_lines.request.Request.{Request}
 use Rattle.hba_program.specs.declared.hba_lines.request.Request.TheVariants as asks
 use Rattle.hba_program.specs.declared.hba_lines.request.RequestFault.{RequestFault}
@@ -37,10 +37,10 @@ accessed remaining contents (access ∷ later) old new does =
     ∙ allowed_if remaining contents _ access old does.0 does.1
 
 worked : {R W : Type 0} (remaining : R → Option (List ℕ)) (contents : W → Option (List ℕ))
-    (choice : ℕ) (told : Option Reply) (before after : Stand R W)
-    → WorksIf remaining contents choice told before after → Same before after
-worked remaining contents choice None before after works = nothing before after works.same
-worked remaining contents choice (Some reply) before after works =
+    (number choice : ℕ) (told : Option Told) (before after : Stand R W)
+    → WorksIf remaining contents number choice told before after → Same before after
+worked remaining contents number choice None before after works = nothing before after works.same
+worked remaining contents number choice (Some told) before after works =
     accessed remaining contents works.does.0 before.wire after.wire works.does.2
 
 told : {R W : Type 0} (remaining : R → Option (List ℕ)) (contents : W → Option (List ℕ))
@@ -50,45 +50,46 @@ told remaining contents true text before after same = nothing before after same
 told remaining contents false text before after tells = tells.says.same
 
 turned : {R W : Type 0} (remaining : R → Option (List ℕ)) (contents : W → Option (List ℕ))
-    (choice : ℕ) (before after : Stand R W) → Turns remaining contents choice before after
+    (number choice : ℕ) (before after : Stand R W)
+    → Turns remaining contents number choice before after
     → Same before after
-turned remaining contents choice before after t =
+turned remaining contents number choice before after t =
     told remaining contents _ _ t.middle after t.tells
-    ∙ worked remaining contents choice t.told before t.middle t.works
+    ∙ worked remaining contents number choice t.told before t.middle t.works
 
 turned_on : {R W : Type 0} (remaining : R → Option (List ℕ)) (contents : W → Option (List ℕ))
-    (n : ℕ) (before after : Stand R W) → TurnsOn remaining contents n before after
+    (number n : ℕ) (before after : Stand R W) → TurnsOn remaining contents number n before after
     → Same before after
 unfolding TurnsOn
-turned_on remaining contents zero before after same = nothing before after same
-turned_on remaining contents (suc n) before after t =
-    turned remaining contents 0 t.0 after t.2 ∙ turned_on remaining contents n before t.0 t.1
+turned_on remaining contents number zero before after same = nothing before after same
+turned_on remaining contents number (suc n) before after t =
+    turned remaining contents number 0 t.0 after t.2 ∙ turned_on remaining contents number n before t.0 t.1
 
 ran_out : {R W : Type 0} (remaining : R → Option (List ℕ)) (contents : W → Option (List ℕ))
-    (before after : Stand R W) → RunsOut remaining contents before after → Same before after
-ran_out remaining contents before after t =
+    (number : ℕ) (before after : Stand R W) → RunsOut remaining contents number before after → Same before after
+ran_out remaining contents number before after t =
     told remaining contents _ _ t.middle after t.tells
-    ∙ turned_on remaining contents t.count before t.middle t.turns
+    ∙ turned_on remaining contents number t.count before t.middle t.turns
 
 answered : {R W : Type 0} (remaining : R → Option (List ℕ)) (contents : W → Option (List ℕ))
-    (request : Request) (before after : Stand R W)
-    → AnswersHost remaining contents request before after → Same before after
-answered remaining contents (asks.Read offset) before after a = a.says.same
-answered remaining contents (asks.Write offset value) before after a = a.says.same
-answered remaining contents (asks.Turn choice) before after a =
-    turned remaining contents choice before after a
-answered remaining contents asks.Run before after a = ran_out remaining contents before after a
-answered remaining contents asks.Interrupt before after a = a.says.same
-answered remaining contents asks.Why before after a = a.says.same
-answered remaining contents asks.PowerCycle before after a = a.says.same
-answered remaining contents (asks.Sector lba) before after a = a.says.same
+    (number : ℕ) (request : Request) (before after : Stand R W)
+    → AnswersHost remaining contents number request before after → Same before after
+answered remaining contents number (asks.Read offset) before after a = a.says.same
+answered remaining contents number (asks.Write offset value) before after a = a.says.same
+answered remaining contents number (asks.Turn choice) before after a =
+    turned remaining contents number choice before after a
+answered remaining contents number asks.Run before after a = ran_out remaining contents number before after a
+answered remaining contents number asks.Interrupt before after a = a.says.same
+answered remaining contents number asks.Why before after a = a.says.same
+answered remaining contents number asks.PowerCycle before after a = a.says.same
+answered remaining contents number (asks.Sector lba) before after a = a.says.same
 
 did_line : {R W : Type 0} (remaining : R → Option (List ℕ)) (contents : W → Option (List ℕ))
-    (line : Result Request RequestFault) (before after : Stand R W)
-    → DoesLine remaining contents line before after → Same before after
-did_line remaining contents (Ok request) before after d =
-    answered remaining contents request before after d
-did_line remaining contents (Err fault) before after d = d.same
+    (number : ℕ) (line : Result Request RequestFault) (before after : Stand R W)
+    → DoesLine remaining contents number line before after → Same before after
+did_line remaining contents number (Ok request) before after d =
+    answered remaining contents number request before after d
+did_line remaining contents number (Err fault) before after d = d.same
 
 did_lines : {R W : Type 0} (remaining : R → Option (List ℕ)) (contents : W → Option (List ℕ))
     (n : ℕ) (before after : Stand R W) → DoesLines remaining contents n before after
@@ -96,7 +97,7 @@ did_lines : {R W : Type 0} (remaining : R → Option (List ℕ)) (contents : W �
 unfolding DoesLines
 did_lines remaining contents zero before after same = nothing before after same
 did_lines remaining contents (suc n) before after d =
-    did_line remaining contents _ d.1 after d.4
+    did_line remaining contents _ _ d.1 after d.4
     ∙ (d.3.same ∙ did_lines remaining contents n before d.0 d.2)
 
 ended : {R W : Type 0} (remaining : R → Option (List ℕ)) (count : ℕ) (last after : Stand R W)

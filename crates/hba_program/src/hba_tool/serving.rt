@@ -11,17 +11,18 @@ use drive::Drive;
 use std::alloc::Global;
 use std::io::{Read, Write};
 
-/// Does what the line at hand asks for, or tells the host that it is none.
+/// Does what the line at hand asks for, as the request of a number, or tells the host that it is none.
 fn turn<R: Read + Drop, W: Write>(
     session: &mut Session,
+    number: u64,
     wire: &mut Wire<'_, R, W>,
 ) -> Result<(), WireError>
     requires { wire.old.is_cut_off ≡ false }
-    ensures { OnOk result (DoesHere R.remaining W.contents
+    ensures { OnOk result (DoesHere R.remaining W.contents number
         (stand session.old wire.old) (stand session.new wire.new)) }
 {
     match Request::parse(wire.line()) {
-        Ok(request) => session.answer(request, wire)?,
+        Ok(request) => session.answer(number, request, wire)?,
         Err(fault) => wire.complain(fault.text())?,
     }
     Ok(())
@@ -49,11 +50,11 @@ fn all_lines<R: Read + Drop, W: Write>(
     ensures done { IfOk result (λ status. DoesAll R.remaining W.contents status
         (stand session.old wire.old) (stand session.new wire.new)) }
 {
-    for _ in 0..u64::MAX {
+    for count in 0..u64::MAX {
         if !wire.next_line()? {
             return Ok(lines_status(wire));
         }
-        turn(session, wire)?;
+        turn(session, count + 1, wire)?;
         if wire.is_cut_off {
             return Ok(lines_status(wire));
         }
@@ -78,8 +79,8 @@ fn host_served<R: Read + Drop, W: Write>(
 
 /// A controller over a drive that has done no act, for the host that a reader and a writer lead to: it does what
 /// each line asks for, and writes the answer before it reads on. The host's memory stays with the host,
-/// and is asked for by lines. It gives the status: 0, or 2 where a line was none or the input ended where an
-/// answer was due.
+/// and is asked for by lines. Behind what was refused stands why, where it `explains`. It gives the status: 0, or 2 where a
+/// line was none or the input ended where an answer was due.
 ///
 /// # Errors
 ///
@@ -89,12 +90,13 @@ pub fn serve<R: Read + Drop, W: Write>(
     input: R,
     output: &mut W,
     drive: Drive,
+    explains: bool,
 ) -> Result<u8, WireError>
     ensures most { IfOk result (λ status. status ≤ 2) }
-    ensures served { IfOk result (λ status. ServesHost R.remaining W.contents drive
+    ensures served { IfOk result (λ status. ServesHost R.remaining W.contents explains drive
         (R.remaining input) status (W.contents output.old) (W.contents output.new)) }
 {
-    let mut session = Session::new(alloc, drive);
+    let mut session = Session::new(alloc, drive, explains);
     let Ok(mut wire) = Wire::new(alloc, input, output) else {
         session.end();
         return Err(WireError::Memory);

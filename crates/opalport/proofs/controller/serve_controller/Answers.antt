@@ -12,7 +12,7 @@ returns-in-Ok-clause-ends g c =
       c.in-Ok.ensures.read,
       search rules,
       subst
-          (λ (ranges : List (Bor (List ℕ))). ControllerEnds g.R.Read.remaining g.W.Write.contents c.in-Ok.options (map (λ s. s.now) ranges)
+          (λ (ranges : List (Bor (List ℕ))). ControllerEnds g.R.Read.remaining g.W.Write.contents c.args.texts.now.explains c.in-Ok.options (map (λ s. s.now) ranges)
           (g.R.Read.remaining c.args.input) status (g.W.Write.contents c.args.output.now) (g.W.Write.contents c.on_drive.new.output))
           c.deref.ensures.value
           ends,

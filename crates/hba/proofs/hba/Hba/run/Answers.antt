@@ -1,5 +1,5 @@
 -- One turn more, or no turn for want of memory.
-use Rattle.hba.specs.History.{IsDenied}
+use Rattle.hba.specs.History.{TellsDenial}
 use Rattle.hba.proofs.Turns.{runs_more, runs_still, has_stopped}
 use Rattle.hba.proofs.hba.Hba.run.Goals as goal
 
@@ -11,7 +11,7 @@ returns-in-Err-clause-stopped g c =
 pub loop-count-preserved : goal.loop-count-preserved
 loop-count-preserved g c =
     runs_more g.M.HostMemory.does c.loop-count.count c.args.self.now c.args.memory.now c.loop-count.self c.loop-count.memory
-    c.turn.new.self c.turn.new.memory c.in-Ok-Some.field-0-0.work c.in-Ok-Some.field-0-0.done (IsDenied c.in-Ok-Some.field-0-0.denied)
+    c.turn.new.self c.turn.new.memory c.in-Ok-Some.field-0-0.work c.in-Ok-Some.field-0-0.done (TellsDenial c.in-Ok-Some.field-0-0.denied)
     c.loop-count.invariant
     (rw c.in-Ok-Some.field-0-is at c.in-Ok-Some.ensures.picked)
     (rw c.in-Ok-Some.field-0-is at c.in-Ok-Some.ensures.done)

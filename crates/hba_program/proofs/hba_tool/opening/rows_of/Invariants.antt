@@ -1,4 +1,4 @@
-use Rattle.std.proofs.Common.{◌≡◌, ◌++◌, drop, map}
+use Rattle.std.proofs.Common.{◌≡◌, drop, map}
 use Rattle.hba_program.specs.Openings.{option_rows, rows_behind}
 use Rattle.hba_program.proofs.hba_tool.opening.rows_of.Given as goal
 

@@ -1,4 +1,3 @@
-use Rattle.std.proofs.Common.{◌≡◌}
 use Rattle.hba_program.specs.Steps.{stand}
 use Rattle.hba_program.proofs.hba_tool.Writers.{did_all}
 use Rattle.hba_program.proofs.hba_tool.serving.host_served.Goals as goal

@@ -1,4 +1,4 @@
-use Rattle.std.proofs.Common.{◌≡◌, rules, ap}
+use Rattle.std.proofs.Common.{rules, ap}
 use Rattle.hba_program.specs.Steps.{stand}
 use Rattle.hba_program.proofs.hba_tool.serving.serve.Goals as goal
 
@@ -8,6 +8,7 @@ returns-clause-served g c = record {
   last = stand c.host_served-served.new.session c.host_served-served.new.wire;
   starts = record {
     hba = c.new-session.ensures.hba;
+    kept = c.new-session.ensures.kept;
     denials = c.new-session.ensures.denials;
     left = c.in-Ok.ensures.left;
     unwritten = ap g.W.Write.contents c.in-Ok.ensures.unwritten;
