@@ -52,7 +52,15 @@ pub(crate) fn serve_controller<R: Read + Drop, W: Write, E: Write>(
     match Options::parse(alloc, &texts.drive) {
         Ok(options) => {
             let explains = texts.explains;
-            on_drive(alloc, &options, &texts.ranges, explains, input, output, faults)
+            on_drive(
+                alloc,
+                &options,
+                &texts.ranges,
+                explains,
+                input,
+                output,
+                faults,
+            )
         }
         Err(OptionsFault::OutOfMemory) => Err(ProgramError::Run(RunError::Memory)),
         Err(fault) => {
