@@ -1,5 +1,5 @@
 -- A denial, as numbers: the reason, and the fields that a denial of its kind has.
-use Rattle.std.specs.Prelude.{ℕ, true, false, Option, Some, None, is_some, unwrap_or, option_map}
+use Rattle.std.specs.Prelude.{ℕ, true, false, Option, Some, None}
 use Rattle.sp_cells.specs.declared.names.Sp.{Sp}
 use Rattle.sp_cells.specs.declared.names.Sp.TheVariants.{Admin, Locking}
 use Rattle.sp_cells.specs.declared.names.Uid.{Uid}
