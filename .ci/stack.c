@@ -71,6 +71,7 @@ static void *port_reset(void *it) { code = opal_port_reset(&handle, 1, OPAL_HARD
 static void *port_shown(void *it) { code = opal_port_shown(&handle).code; return it; }
 static void *port_denial(void *it) { code = opal_port_denial(&handle, 0, text, sizeof text).code; return it; }
 static void *port_denied(void *it) { code = opal_port_denied(&handle, 0).code; return it; }
+static void *port_denials(void *it) { static opal_denied list[64]; size_t place = 0; code = opal_port_denials(&handle, &place, list, 64).code; return it; }
 static void *port_ready(void *it) { opal_ready ready[32]; code = opal_port_ready(&handle, ready, 32).code; return it; }
 
 static void *hba_start(void *it)
@@ -143,7 +144,7 @@ int main(void)
     RUN(frees);
     RUN(port_new);
     RUN(port_put), RUN(port_ready), RUN(port_issue), RUN(port_accept), RUN(port_complete), RUN(port_take), RUN(port_data);
-    RUN(port_put), RUN(port_turn), RUN(port_shown), RUN(port_denial), RUN(port_denied), RUN(port_recover), RUN(port_reset), RUN(frees);
+    RUN(port_put), RUN(port_turn), RUN(port_shown), RUN(port_denial), RUN(port_denied), RUN(port_denials), RUN(port_recover), RUN(port_reset), RUN(frees);
     RUN(hba_new);
     RUN(hba_start), RUN(hba_turn), RUN(hba_issue), RUN(hba_turn), RUN(hba_read), RUN(hba_interrupt), RUN(hba_denial), RUN(hba_denied);
     RUN(hba_cycle), RUN(frees);

@@ -148,7 +148,8 @@ enum opal_com_id {
 
 enum opal_size {
     OPAL_SECTOR_BYTES = 512,
-    OPAL_FIS_BYTES = 20 /* of the FIS of a command */
+    OPAL_FIS_BYTES = 20,    /* of the FIS of a command */
+    OPAL_MOST_DENIALS = 64  /* so many lines of its audit log has a port, the latest */
 };
 
 /* What you hold in place of an object: a number, which no other object of this process has, also when it was freed. Its
@@ -974,8 +975,7 @@ OPAL_MUST_USE static inline opal_count opal_port_denial(const opal_handle *port,
     return told;
 }
 
-/* What opal_port_denial tells, in numbers: of a place where the port has no line it tells none. So those since a last look are
-   at the places from the number of denials then to that of now (opal_port_shown). */
+/* What opal_port_denial tells, in numbers: of a place where the port has no line it tells none. */
 OPAL_MUST_USE static inline opal_denied opal_port_denied(const opal_handle *port, size_t place)
 {
     opal_raw_call call;
@@ -984,6 +984,35 @@ OPAL_MUST_USE static inline opal_denied opal_port_denied(const opal_handle *port
         return told;
     told = opal_raw_port_denied(&call.object, place);
     opal_raw_end(&call);
+    return told;
+}
+
+/* Copies the denials from a place on, the oldest first, as many as there is room for, and tells how many they are. The place is
+   moved behind the last of them: so the next call lists those since. It begins as 0; a place whose line the port keeps no more
+   is left out. Refused, and then the place is as before: also OPAL_NULL and OPAL_MISALIGNED of the two pointers. */
+OPAL_MUST_USE static inline opal_count opal_port_denials(const opal_handle *port, size_t *place, opal_denied *into, size_t length)
+{
+    opal_count told = { opal_raw_from(port, into, length > SIZE_MAX / 2 / sizeof *into ? SIZE_MAX : length * sizeof *into), 0 };
+    if (told.code == OPAL_DONE && place == NULL)
+        told.code = OPAL_NULL;
+    if (told.code == OPAL_DONE && ((uintptr_t)place % sizeof(size_t) != 0 || (uintptr_t)into % sizeof(uint64_t) != 0))
+        told.code = OPAL_MISALIGNED;
+    if (told.code != OPAL_DONE)
+        return told;
+    opal_shown shown = opal_port_shown(port);
+    told.code = shown.code;
+    size_t at = *place;
+    if (shown.denials >= OPAL_MOST_DENIALS && at < shown.denials - OPAL_MOST_DENIALS)
+        at = shown.denials - OPAL_MOST_DENIALS;
+    for (; told.code == OPAL_DONE && told.number < length && at < shown.denials; at++) {
+        into[told.number] = opal_port_denied(port, at);
+        told.code = into[told.number].code;
+        told.number += into[told.number].reason != OPAL_REASON_NONE;
+    }
+    if (told.code == OPAL_DONE)
+        *place = at;
+    else
+        told.number = 0;
     return told;
 }
 
