@@ -1,15 +1,17 @@
-/* How much stack the calls of the library take: each is made in a thread whose stack is painted before, and what is painted no
-   more is counted. What makes a drive, a port or a controller may take 144 KiB, any other call 16 KiB, as the header says. */
+/* How much stack the calls of the library take: each is made in a thread with 64 KiB of stack, which is painted before, and what
+   is painted no more is counted. A call may take 16 KiB, as the header says. A page below the stack can't be touched. */
 #include "opalport.h"
 
 #include <pthread.h>
 #include <stdio.h>
 #include <stdlib.h>
 #include <string.h>
+#include <sys/mman.h>
 
-enum { STACK = 1 << 20, PAINT = 0xa5, MOST_MAKING = 144 << 10, MOST = 16 << 10, BASE = 0x100000 };
+enum { STACK = 64 << 10, PAGE = 4096, PAINT = 0xa5, MOST = 16 << 10, BASE = 0x100000 };
 enum { PxCLB = 0x100, PxFB = 0x108, PxCMD = 0x118, PxSERR = 0x130, PxCI = 0x138 };
 
+static const opal_range locked = { 500, 10, 1, 1, 1, 1, 1 };
 static opal_handle handle = OPAL_NONE;
 static opal_config config = OPAL_CONFIG_INIT;
 static uint8_t fis[OPAL_FIS_BYTES], block[OPAL_SECTOR_BYTES], many[60000], memory[0x4000];
@@ -37,12 +39,15 @@ static void *send_fis(void *it) { code = opal_trusted_fis(1, OPAL_PROTOCOL_TCG, 
 static void *send_block(void *it) { code = opal_drive_accept(&handle, fis, sizeof fis, block, sizeof block).code; return it; }
 static void *receive_fis(void *it) { code = opal_trusted_fis(0, OPAL_PROTOCOL_TCG, OPAL_COM_ID, 1, fis, sizeof fis).code; return it; }
 static void *read_fis(void *it) { code = opal_command_fis(OPAL_READ_QUEUED, 100, 1, 3, fis, sizeof fis).code; return it; }
+static void *read_dma_fis(void *it) { code = opal_command_fis(OPAL_READ_DMA, 500, 1, 0, fis, sizeof fis).code; return it; }
 static void *payload(void *it) { code = opal_drive_payload(&handle, fis, sizeof fis).code; return it; }
 static void *accepts(void *it) { code = opal_drive_accept(&handle, fis, sizeof fis, NULL, 0).code; return it; }
 static void *expects(void *it) { code = opal_drive_expects(&handle, 3).code; return it; }
 static void *completes(void *it) { code = opal_drive_complete(&handle, 3, NULL, 0).code; return it; }
 static void *data(void *it) { code = opal_drive_data(&handle, block, sizeof block).code; return it; }
 static void *denial(void *it) { code = opal_drive_denial(&handle, 7, text, sizeof text).code; return it; }
+static void *denied(void *it) { code = opal_drive_denied(&handle, 7).code; return it; }
+static void *remedy(void *it) { code = opal_remedy(&handle, 0, text, sizeof text).code; return it; }
 static void *failure(void *it) { code = opal_drive_failure(&handle).code; return it; }
 static void *reset(void *it) { code = opal_drive_reset(&handle, OPAL_POWER_CYCLE); return it; }
 static void *tokens(void *it) { code = opal_tokens_text(1, many, sizeof many, text, sizeof text).code; return it; }
@@ -65,6 +70,8 @@ static void *port_recover(void *it) { opal_count told = opal_port_recover(&handl
 static void *port_reset(void *it) { code = opal_port_reset(&handle, 1, OPAL_HARDWARE_RESET).code; return it; }
 static void *port_shown(void *it) { code = opal_port_shown(&handle).code; return it; }
 static void *port_denial(void *it) { code = opal_port_denial(&handle, 0, text, sizeof text).code; return it; }
+static void *port_denied(void *it) { code = opal_port_denied(&handle, 0).code; return it; }
+static void *port_denials(void *it) { static opal_denied list[64]; size_t place = 0; code = opal_port_denials(&handle, &place, list, 64).code; return it; }
 static void *port_ready(void *it) { opal_ready ready[32]; code = opal_port_ready(&handle, ready, 32).code; return it; }
 
 static void *hba_start(void *it)
@@ -84,6 +91,7 @@ static void *hba_issue(void *it) { code = opal_hba_write(&handle, PxCI, 1); retu
 static void *hba_read(void *it) { code = opal_hba_read(&handle, PxCI).code; return it; }
 static void *hba_interrupt(void *it) { code = opal_hba_interrupt(&handle).code; return it; }
 static void *hba_denial(void *it) { code = opal_hba_denial(&handle, text, sizeof text).code; return it; }
+static void *hba_denied(void *it) { code = opal_hba_denied(&handle).code; return it; }
 static void *hba_cycle(void *it) { code = opal_hba_power_cycle(&handle); return it; }
 
 /* How many bytes of stack a thread takes that makes a call. */
@@ -91,9 +99,9 @@ static size_t taken(void *(*call)(void *))
 {
     pthread_attr_t how;
     pthread_t thread;
-    uint8_t *stack = aligned_alloc(4096, STACK);
+    uint8_t *below = mmap(NULL, PAGE + STACK, PROT_READ | PROT_WRITE, MAP_PRIVATE | MAP_ANONYMOUS, -1, 0), *stack = below + PAGE;
     size_t left = 0;
-    if (stack == NULL)
+    if (below == MAP_FAILED || mprotect(below, PAGE, PROT_NONE) != 0)
         exit(2);
     memset(stack, PAINT, STACK);
     pthread_attr_init(&how);
@@ -102,43 +110,44 @@ static size_t taken(void *(*call)(void *))
     pthread_join(thread, NULL);
     while (left < STACK && stack[left] == PAINT)
         left++;
-    free(stack);
+    munmap(below, PAGE + STACK);
     return STACK - left;
 }
 
 static int wrong;
-static size_t most_of[2], least;
+static size_t most, least;
 
-static void run(const char *what, void *(*call)(void *), bool makes)
+static void run(const char *what, void *(*call)(void *))
 {
     code = OPAL_DONE;
     size_t bytes = taken(call);
     bytes -= bytes < least ? bytes : least;
-    most_of[makes] = bytes > most_of[makes] ? bytes : most_of[makes];
-    if (code != OPAL_DONE || bytes > (size_t)(makes ? MOST_MAKING : MOST)) {
+    most = bytes > most ? bytes : most;
+    if (code != OPAL_DONE || bytes > MOST) {
         fprintf(stderr, "stack: %s: %s, %zu bytes\n", what, opal_error_text(code), bytes);
         wrong = 1;
     }
 }
 
-#define RUN(call) run(#call, call, false)
-#define MAKE(call) run(#call, call, true)
+#define RUN(call) run(#call, call)
 
 int main(void)
 {
     memset(many, 0xf0, sizeof many);
     least = taken(nothing);
+    config.ranges = &locked, config.range_count = 1;
     RUN(version), RUN(tokens);
-    MAKE(drive_new), RUN(about), RUN(media);
+    RUN(drive_new), RUN(about), RUN(media);
     RUN(frame), RUN(opened), RUN(send_fis), RUN(send_block), RUN(receive_fis), RUN(accepts), RUN(data);
-    RUN(read_fis), RUN(decoded), RUN(payload), RUN(accepts), RUN(expects), RUN(completes), RUN(denial), RUN(failure), RUN(reset);
+    RUN(read_fis), RUN(decoded), RUN(payload), RUN(accepts), RUN(expects), RUN(completes), RUN(failure), RUN(reset);
+    RUN(read_dma_fis), RUN(accepts), RUN(denial), RUN(denied), RUN(remedy);
     RUN(frees);
-    MAKE(port_new);
+    RUN(port_new);
     RUN(port_put), RUN(port_ready), RUN(port_issue), RUN(port_accept), RUN(port_complete), RUN(port_take), RUN(port_data);
-    RUN(port_put), RUN(port_turn), RUN(port_shown), RUN(port_denial), RUN(port_recover), RUN(port_reset), RUN(frees);
-    MAKE(hba_new);
-    RUN(hba_start), RUN(hba_turn), RUN(hba_issue), RUN(hba_turn), RUN(hba_read), RUN(hba_interrupt), RUN(hba_denial);
+    RUN(port_put), RUN(port_turn), RUN(port_shown), RUN(port_denial), RUN(port_denied), RUN(port_denials), RUN(port_recover), RUN(port_reset), RUN(frees);
+    RUN(hba_new);
+    RUN(hba_start), RUN(hba_turn), RUN(hba_issue), RUN(hba_turn), RUN(hba_read), RUN(hba_interrupt), RUN(hba_denial), RUN(hba_denied);
     RUN(hba_cycle), RUN(frees);
-    fprintf(stderr, "stack: %zu bytes where an object is made, %zu in any other call\n", most_of[1], most_of[0]);
+    fprintf(stderr, "stack: at most %zu bytes in any call\n", most);
     return wrong;
 }

@@ -13,22 +13,23 @@
    opal_hba_new an AHCI controller with one port and the drive behind it, for a driver: registers, and your memory.
 
    Each call gives a code: OPAL_DONE, or why it was refused, and then nothing was done. opal_error_text tells it in
-   words. A call never ends the process, never waits and never prints. It takes memory from malloc, and stack: where it makes
-   a drive, a port or a controller up to 144 KiB, else up to 16 KiB. A text that is given has a length, and no zero behind it.
+   words. A call never ends the process and never prints. It waits for no other call, but for the moment in which that looks up
+   its handle. It takes memory from malloc, and up to 16 KiB of stack. A text that is given has a length, and no zero behind it.
+
+   A handle is a number. The library looks it up in its table, and follows no address in it. A number is never given twice. So a
+   handle may be copied and moved in memory; each copy leads to the same object, and to none once that is freed by one of them.
 
    What a call sees for itself, and refuses with a code:
    - a null pointer (a buffer of 0 bytes may be null), and a pointer to a struct that is not aligned;
    - a buffer that it writes and that has a byte in common with another buffer of the call, or with the handle;
-   - a handle at which nothing was made, or that was freed: OPAL_NOT_OPEN. So it is for a handle of zeros, and for bytes
-     that are no handle, unless their first eight are by chance the mark of one;
+   - a handle at which nothing was made, one that was freed, by itself or by a copy, a second free, bytes of an old handle, and
+     bytes that never were one: OPAL_NO_HANDLE;
+   - a handle on which another thread is in a call: OPAL_BUSY. Two objects may be used in two threads at once;
    - a handle of another kind, as a drive's for a port's: OPAL_OTHER_KIND;
    - a length that is not right, a tag above 31, and each number that the call does not take.
 
-   What no C function can see, and you owe, also where a handle is const, which says that the object stays as it is:
-   - a pointer that is not null leads to as many bytes as its length says, or to a handle;
-   - a handle begins as OPAL_NONE. It is written by these calls alone, and used where it is: a copy of it is no handle,
-     and after a call by one of the two the other one must not be used;
-   - one call at a time on a handle. Two handles may be used in two threads at once;
+   What no C function can see, and you owe:
+   - a pointer that is not null leads to as many bytes as its length says, or to a handle, for as long as the call takes;
    - no call from a signal handler, or in the child of a fork of a process with threads. */
 #ifndef OPALPORT_H
 #define OPALPORT_H
@@ -63,7 +64,7 @@ extern "C" {
 typedef enum opal_code {
     OPAL_DONE = 0,          /* done */
     OPAL_OUT_OF_MEMORY = 1, /* an allocation was refused */
-    OPAL_NOT_OPEN = 2,      /* the handle has nothing */
+    OPAL_NOT_OPEN = 2,      /* the handle has nothing: OPAL_NO_HANDLE is the same */
     OPAL_OTHER_KIND = 3,    /* what it has is of another kind */
     OPAL_NULL = 4,          /* a pointer is null */
     OPAL_LENGTH = 5,        /* a FIS has not 20 bytes, or a payload not as many as its command brings */
@@ -92,6 +93,7 @@ typedef enum opal_code {
     /* What no caller of Rattle can do. */
     OPAL_SHARED = 26,     /* a buffer that is written has a byte in common with another one, or with the handle */
     OPAL_MISALIGNED = 27, /* a pointer to a struct is no multiple of 8 */
+    OPAL_BUSY = 28,       /* another call is at work on the object of the handle */
 
     /* Why a step of a port was refused: the first reason that applies, in the order of each call. */
     OPAL_PORT_SLOT_BUSY = 101,    /* the slot is not free */
@@ -104,7 +106,9 @@ typedef enum opal_code {
     OPAL_PORT_NOT_ANSWERED = 108, /* the slot has no answer */
     OPAL_PORT_NOT_YOURS = 109,    /* the answer is another client's */
     OPAL_PORT_SIZE = 110,         /* a transfer is empty, above 256 blocks, no whole blocks, or at no address of 48 bits */
-    OPAL_PORT_HISTORY_FULL = 111  /* no port is refused so any more: it keeps no history */
+    OPAL_PORT_HISTORY_FULL = 111, /* no port is refused so any more: it keeps no history */
+
+    OPAL_NO_HANDLE = OPAL_NOT_OPEN
 } opal_code;
 
 /* A code has four bytes, as the library gives it. */
@@ -144,13 +148,15 @@ enum opal_com_id {
 
 enum opal_size {
     OPAL_SECTOR_BYTES = 512,
-    OPAL_FIS_BYTES = 20 /* of the FIS of a command */
+    OPAL_FIS_BYTES = 20,    /* of the FIS of a command */
+    OPAL_MOST_DENIALS = 64  /* so many lines of its audit log has a port, the latest */
 };
 
-/* What you hold in place of an object. Its fields are the library's. */
+/* What you hold in place of an object: a number, which no other object of this process has, also when it was freed. Its
+   fields are the library's. */
 typedef struct opal_handle {
     uint64_t mark;
-    void *place;
+    uint64_t place;
 } opal_handle;
 
 #define OPAL_NONE { 0, 0 }
@@ -212,6 +218,39 @@ typedef struct opal_answer {
     bool denied;    /* the command, or what it sent, was denied: opal_drive_denial tells by what */
     size_t length;  /* how many bytes of data there are: opal_drive_data gives them */
 } opal_answer;
+
+/* What denied an act, as a number. */
+typedef enum opal_reason {
+    OPAL_REASON_NONE = 0,         /* nothing was denied */
+    OPAL_REASON_READ_LOCKED = 1,  /* a read over a range whose read lock is enabled and set */
+    OPAL_REASON_WRITE_LOCKED = 2, /* a write over a range whose write lock is enabled and set */
+    OPAL_REASON_READ_SHADOW = 3,  /* a read of sectors of which the shadow MBR covers some */
+    OPAL_REASON_WRITE_SHADOW = 4, /* a write to sectors that the shadow MBR covers */
+    OPAL_REASON_NO_ACE = 5,       /* a method for which no access control element holds */
+    OPAL_REASON_NO_ACCESS = 6,    /* a method that the access list does not offer on the object */
+    OPAL_REASON_WRONG_PIN = 7,    /* an attempt to authenticate: the PIN is another one, */
+    OPAL_REASON_LOCKED_OUT = 8,   /* the authority's tries are used up, */
+    OPAL_REASON_DISABLED = 9,     /* it is not enabled, */
+    OPAL_REASON_BLOCKED = 10,     /* SID is blocked, */
+    OPAL_REASON_UNKNOWN = 11      /* the authority is unknown, or a class of others */
+} opal_reason;
+
+/* A denial in numbers, where code is OPAL_DONE: whose act was denied, and by what. What a field is of is told at it; of another
+   denial it is 0. */
+typedef struct opal_denied {
+    opal_code code;
+    uint32_t client;  /* who: of a drive what the caller said, of a port the client, of a controller the tag */
+    uint8_t reason;   /* enum opal_reason; 0 where there is no denial, and then all else is 0 */
+    uint8_t sp;       /* of a method or an attempt: 1 the Admin SP, 2 the Locking SP */
+    uint8_t range;    /* of a locked range: its number; 0 is the global one */
+    bool has_column;  /* of a method that no element lets: whether it names columns */
+    uint32_t count;   /* of a transfer: how many sectors */
+    uint64_t step;    /* the number of the act; of a port, of the step */
+    uint64_t lba;     /* of a transfer: the first sector */
+    uint64_t object;  /* of a method: the UID of the object; of an attempt: of the authority */
+    uint64_t method;  /* of a method: its UID */
+    uint64_t column;  /* of a method that names columns: the first that is denied */
+} opal_denied;
 
 /* A number, where code is OPAL_DONE. */
 typedef struct opal_count {
@@ -335,7 +374,20 @@ enum opal_kind {
     OPAL_DATA_PAGE = 6      /* a page of log 30h */
 };
 
-/* The functions of the archive. They look for no null pointer: call those below them. A bool is 0 or 1. */
+/* The functions of the archive. They look for no null pointer, and take an object itself in place of its handle: call those
+   below them. A bool is 0 or 1. An object of zeros is none. */
+typedef struct opal_raw_object {
+    uint64_t mark;
+    void *place;
+} opal_raw_object;
+
+/* Gives a handle a number that no other one had, whose object is lent. Refused: OPAL_OUT_OF_MEMORY. */
+opal_code opal_raw_number(opal_handle *handle);
+/* Lends the object of a handle. Refused: OPAL_NOT_OPEN, OPAL_BUSY. */
+opal_code opal_raw_lend(const opal_handle *handle, opal_raw_object *object);
+/* Takes an object back that was lent; where it is none, the number of the handle is that of no object from now on. */
+void opal_raw_give_back(const opal_handle *handle, const opal_raw_object *object);
+
 typedef struct opal_raw_size {
     uint64_t sectors;
     uint64_t shadow;
@@ -345,49 +397,53 @@ typedef struct opal_raw_size {
 
 uint32_t opal_raw_version(void);
 opal_count opal_raw_version_text(uint8_t *into, size_t length);
-opal_about opal_raw_about(opal_handle *handle);
-opal_count opal_raw_media(opal_handle *handle, uint64_t lba, uint8_t *into, size_t length);
+opal_about opal_raw_about(opal_raw_object *object);
+opal_count opal_raw_media(opal_raw_object *object, uint64_t lba, uint8_t *into, size_t length);
+opal_count opal_raw_remedy(opal_raw_object *object, size_t place, uint8_t *into, size_t length);
 
-opal_code opal_raw_drive_new(opal_handle *handle, opal_raw_size size, const uint8_t *msid, size_t msid_length,
+opal_code opal_raw_drive_new(opal_raw_object *object, opal_raw_size size, const uint8_t *msid, size_t msid_length,
                              const uint8_t *serial, size_t serial_length, const uint8_t *model, size_t model_length,
                              const uint8_t *psid, size_t psid_length, const opal_range *ranges, size_t range_count);
-opal_code opal_raw_free(opal_handle *handle);
-opal_answer opal_raw_drive_accept(opal_handle *handle, const uint8_t *fis, size_t fis_length, const uint8_t *payload,
+opal_code opal_raw_free(opal_raw_object *object);
+opal_answer opal_raw_drive_accept(opal_raw_object *object, const uint8_t *fis, size_t fis_length, const uint8_t *payload,
                                   size_t payload_length);
-opal_answer opal_raw_drive_complete(opal_handle *handle, uint8_t tag, const uint8_t *payload, size_t payload_length);
-opal_code opal_raw_drive_reset(opal_handle *handle, uint32_t kind);
-opal_count opal_raw_drive_payload(opal_handle *handle, const uint8_t *fis, size_t fis_length);
-opal_count opal_raw_drive_expects(opal_handle *handle, uint8_t tag);
-opal_failed opal_raw_drive_failure(opal_handle *handle);
-opal_count opal_raw_drive_data(opal_handle *handle, uint8_t *into, size_t length);
-opal_count opal_raw_drive_denial(opal_handle *handle, uint32_t client, uint8_t *into, size_t length);
+opal_answer opal_raw_drive_complete(opal_raw_object *object, uint8_t tag, const uint8_t *payload, size_t payload_length);
+opal_code opal_raw_drive_reset(opal_raw_object *object, uint32_t kind);
+opal_count opal_raw_drive_payload(opal_raw_object *object, const uint8_t *fis, size_t fis_length);
+opal_count opal_raw_drive_expects(opal_raw_object *object, uint8_t tag);
+opal_failed opal_raw_drive_failure(opal_raw_object *object);
+opal_count opal_raw_drive_data(opal_raw_object *object, uint8_t *into, size_t length);
+opal_count opal_raw_drive_denial(opal_raw_object *object, uint32_t client, uint8_t *into, size_t length);
+opal_denied opal_raw_drive_denied(opal_raw_object *object, uint32_t client);
 
-opal_code opal_raw_port_new(opal_handle *handle, opal_raw_size size, const uint8_t *msid, size_t msid_length,
+opal_code opal_raw_port_new(opal_raw_object *object, opal_raw_size size, const uint8_t *msid, size_t msid_length,
                             const uint8_t *serial, size_t serial_length, const uint8_t *model, size_t model_length,
                             const uint8_t *psid, size_t psid_length, const opal_range *ranges, size_t range_count);
-opal_count opal_raw_port_put(opal_handle *handle, uint32_t client, uint8_t tag, opal_request request,
+opal_count opal_raw_port_put(opal_raw_object *object, uint32_t client, uint8_t tag, opal_request request,
                              const uint8_t *payload, size_t payload_length);
-opal_count opal_raw_port_issue(opal_handle *handle, uint8_t tag);
-opal_count opal_raw_port_accept(opal_handle *handle, uint8_t tag);
-opal_count opal_raw_port_complete(opal_handle *handle, uint8_t tag);
-opal_count opal_raw_port_recover(opal_handle *handle);
-opal_count opal_raw_port_reset(opal_handle *handle, uint32_t client, uint32_t kind);
-opal_taken opal_raw_port_take(opal_handle *handle, uint32_t client, uint8_t tag);
-opal_count opal_raw_port_turn(opal_handle *handle, size_t choice);
-opal_count opal_raw_port_ready(opal_handle *handle, opal_ready *into, size_t length);
-opal_count opal_raw_port_data(opal_handle *handle, uint8_t *into, size_t length);
-opal_shown opal_raw_port_shown(opal_handle *handle);
-opal_count opal_raw_port_denial(opal_handle *handle, size_t place, uint8_t *into, size_t length);
+opal_count opal_raw_port_issue(opal_raw_object *object, uint8_t tag);
+opal_count opal_raw_port_accept(opal_raw_object *object, uint8_t tag);
+opal_count opal_raw_port_complete(opal_raw_object *object, uint8_t tag);
+opal_count opal_raw_port_recover(opal_raw_object *object);
+opal_count opal_raw_port_reset(opal_raw_object *object, uint32_t client, uint32_t kind);
+opal_taken opal_raw_port_take(opal_raw_object *object, uint32_t client, uint8_t tag);
+opal_count opal_raw_port_turn(opal_raw_object *object, size_t choice);
+opal_count opal_raw_port_ready(opal_raw_object *object, opal_ready *into, size_t length);
+opal_count opal_raw_port_data(opal_raw_object *object, uint8_t *into, size_t length);
+opal_shown opal_raw_port_shown(opal_raw_object *object);
+opal_count opal_raw_port_denial(opal_raw_object *object, size_t place, uint8_t *into, size_t length);
+opal_denied opal_raw_port_denied(opal_raw_object *object, size_t place);
 
-opal_code opal_raw_hba_new(opal_handle *handle, opal_raw_size size, const uint8_t *msid, size_t msid_length,
+opal_code opal_raw_hba_new(opal_raw_object *object, opal_raw_size size, const uint8_t *msid, size_t msid_length,
                            const uint8_t *serial, size_t serial_length, const uint8_t *model, size_t model_length,
                            const uint8_t *psid, size_t psid_length, const opal_range *ranges, size_t range_count);
-opal_count opal_raw_hba_read(opal_handle *handle, uint32_t offset);
-opal_code opal_raw_hba_write(opal_handle *handle, uint32_t offset, uint32_t value);
-opal_count opal_raw_hba_interrupt(opal_handle *handle);
-opal_code opal_raw_hba_power_cycle(opal_handle *handle);
-opal_worked opal_raw_hba_turn(opal_handle *handle, size_t choice, uint32_t base, uint8_t *memory, size_t length);
-opal_count opal_raw_hba_denial(opal_handle *handle, uint8_t *into, size_t length);
+opal_count opal_raw_hba_read(opal_raw_object *object, uint32_t offset);
+opal_code opal_raw_hba_write(opal_raw_object *object, uint32_t offset, uint32_t value);
+opal_count opal_raw_hba_interrupt(opal_raw_object *object);
+opal_code opal_raw_hba_power_cycle(opal_raw_object *object);
+opal_worked opal_raw_hba_turn(opal_raw_object *object, size_t choice, uint32_t base, uint8_t *memory, size_t length);
+opal_count opal_raw_hba_denial(opal_raw_object *object, uint8_t *into, size_t length);
+opal_denied opal_raw_hba_denied(opal_raw_object *object);
 
 opal_count opal_raw_tokens(bool by_name, const uint8_t *bytes, size_t bytes_length, uint8_t *into, size_t length);
 opal_count opal_raw_decoded(uint32_t kind, const uint8_t *bytes, size_t bytes_length, uint8_t *into, size_t length);
@@ -480,8 +536,28 @@ static inline opal_code opal_raw_asked(const opal_config *config)
     return fault != OPAL_DONE ? fault : opal_raw_buffer(config->ranges, config->range_count);
 }
 
+/* A call at work: the object that is lent to it, and the handle that it is to be given back to. */
+typedef struct opal_raw_call {
+    opal_raw_object object;
+    opal_handle handle;
+} opal_raw_call;
+
+/* Begins a call, where nothing is wrong so far; and ends it. */
+static inline opal_code opal_raw_begin(opal_raw_call *call, const opal_handle *handle, opal_code fault)
+{
+    if (fault != OPAL_DONE)
+        return fault;
+    call->handle = *handle;
+    return opal_raw_lend(&call->handle, &call->object);
+}
+
+static inline void opal_raw_end(const opal_raw_call *call)
+{
+    opal_raw_give_back(&call->handle, &call->object);
+}
+
 /* How the archive makes a drive, a port or a controller. */
-typedef opal_code opal_raw_make(opal_handle *handle, opal_raw_size size, const uint8_t *msid, size_t msid_length,
+typedef opal_code opal_raw_make(opal_raw_object *object, opal_raw_size size, const uint8_t *msid, size_t msid_length,
                                 const uint8_t *serial, size_t serial_length, const uint8_t *model, size_t model_length,
                                 const uint8_t *psid, size_t psid_length, const opal_range *ranges, size_t range_count);
 
@@ -496,9 +572,25 @@ static inline opal_code opal_raw_new(opal_raw_make *make, opal_handle *handle, c
     opal_raw_size size = { config->sectors, config->shadow, UINT64_MAX, config->profile };
     if (config->has_datastore != 0) /* the largest number stands for none that is asked for, and no drive has the one below it */
         size.datastore = config->datastore == UINT64_MAX ? UINT64_MAX - 1 : config->datastore;
-    return make(handle, size, opal_raw_at(config->msid), config->msid_length, opal_raw_at(config->serial),
-                config->serial_length, opal_raw_at(config->model), config->model_length, opal_raw_at(config->psid),
-                config->psid_length, (const opal_range *)(const void *)opal_raw_at(config->ranges), config->range_count);
+    opal_raw_call call = { { 0, NULL }, OPAL_NONE };
+    fault = opal_raw_lend(handle, &call.object);
+    if (fault == OPAL_DONE)
+        opal_raw_give_back(handle, &call.object);
+    if (fault != OPAL_NOT_OPEN)
+        return OPAL_IN_USE;
+    fault = make(&call.object, size, opal_raw_at(config->msid), config->msid_length, opal_raw_at(config->serial),
+                 config->serial_length, opal_raw_at(config->model), config->model_length, opal_raw_at(config->psid),
+                 config->psid_length, (const opal_range *)(const void *)opal_raw_at(config->ranges), config->range_count);
+    if (fault != OPAL_DONE)
+        return fault;
+    fault = opal_raw_number(&call.handle);
+    if (fault != OPAL_DONE) {
+        opal_raw_free(&call.object);
+        return fault;
+    }
+    opal_raw_end(&call);
+    *handle = call.handle;
+    return OPAL_DONE;
 }
 
 /* The version of the library, a byte each of major, minor and patch: OPAL_VERSION of the header that it was made with. A
@@ -525,31 +617,64 @@ OPAL_MUST_USE static inline opal_code opal_drive_new(opal_handle *drive, const o
     return opal_raw_new(opal_raw_drive_new, drive, config);
 }
 
-/* Frees what a handle has, of any kind. Refused: OPAL_NULL, OPAL_MISALIGNED, OPAL_NOT_OPEN. */
+/* Frees what a handle has, of any kind. Refused: OPAL_NULL, OPAL_MISALIGNED, OPAL_NOT_OPEN, OPAL_BUSY. */
 static inline opal_code opal_free(opal_handle *handle)
 {
-    opal_code fault = opal_raw_of(handle);
-    return fault != OPAL_DONE ? fault : opal_raw_free(handle);
+    opal_raw_call call;
+    opal_code told = opal_raw_begin(&call, handle, opal_raw_of(handle));
+    if (told != OPAL_DONE)
+        return told;
+    told = opal_raw_free(&call.object);
+    opal_raw_end(&call);
+    handle->mark = handle->place = 0;
+    return told;
 }
 
 /* What a handle has: its kind, and of the drive the profile and the sectors. Refused: OPAL_NULL, OPAL_MISALIGNED,
-   OPAL_NOT_OPEN. */
+   OPAL_NOT_OPEN, OPAL_BUSY. */
 OPAL_MUST_USE static inline opal_about opal_about_handle(const opal_handle *handle)
 {
-    opal_about refused = { opal_raw_of(handle), 0, 0, 0, 0 };
-    return refused.code != OPAL_DONE ? refused : opal_raw_about((opal_handle *)handle);
+    opal_raw_call call;
+    opal_about told = { opal_raw_begin(&call, handle, opal_raw_of(handle)), 0, 0, 0, 0 };
+    if (told.code != OPAL_DONE)
+        return told;
+    told = opal_raw_about(&call.object);
+    opal_raw_end(&call);
+    return told;
 }
 
 /* Copies the 512 bytes of a sector as the media of the drive hold them, whatever is locked or shadowed: a look for a test, and no
    act of the drive. It takes a handle of any kind. Refused: OPAL_NULL, OPAL_MISALIGNED, OPAL_SHARED, OPAL_LENGTH, OPAL_NOT_OPEN,
-   OPAL_NUMBER beyond the drive, OPAL_ROOM. */
+   OPAL_BUSY, OPAL_NUMBER beyond the drive, OPAL_ROOM. */
 OPAL_MUST_USE static inline opal_count opal_media(const opal_handle *handle, uint64_t lba, void *into, size_t length)
 {
-    opal_count refused = { opal_raw_into(handle, into, length), 0 };
-    return refused.code != OPAL_DONE ? refused : opal_raw_media((opal_handle *)handle, lba, opal_raw_at(into), length);
+    opal_raw_call call;
+    opal_count told = { opal_raw_begin(&call, handle, opal_raw_into(handle, into, length)), 0 };
+    if (told.code != OPAL_DONE)
+        return told;
+    told = opal_raw_media(&call.object, lba, opal_raw_at(into), length);
+    opal_raw_end(&call);
+    return told;
 }
 
-/* What follows are the calls of a drive. All can be refused with OPAL_NULL, OPAL_MISALIGNED, OPAL_NOT_OPEN and OPAL_OTHER_KIND;
+/* Copies what would lift a denial, by the rows in force now, as `lifted by: Set of Locking_Range1 ReadLocked = 0 by Admins
+   (ACE_Locking_Range1_Set_RdLocked)`; no bytes, where nothing was denied. Of a drive it is the denial of its last command, of a
+   port the line at a place of its audit log, of a controller the command of its last turn; the place is looked at for a port alone.
+   It has no zero behind it. Refused: OPAL_NULL, OPAL_MISALIGNED, OPAL_SHARED, OPAL_LENGTH, OPAL_NOT_OPEN, OPAL_BUSY,
+   OPAL_ROOM, OPAL_OUT_OF_MEMORY. */
+OPAL_MUST_USE static inline opal_count opal_remedy(const opal_handle *handle, size_t place, char *into, size_t length)
+{
+    opal_raw_call call;
+    opal_count told = { opal_raw_begin(&call, handle, opal_raw_into(handle, into, length)), 0 };
+    if (told.code != OPAL_DONE)
+        return told;
+    told = opal_raw_remedy(&call.object, place, opal_raw_at(into), length);
+    opal_raw_end(&call);
+    return told;
+}
+
+/* What follows are the calls of a drive. All can be refused with OPAL_NULL, OPAL_MISALIGNED, OPAL_NOT_OPEN, OPAL_BUSY and
+   OPAL_OTHER_KIND;
    those with a buffer with OPAL_LENGTH, and those that write one with OPAL_SHARED. */
 
 /* Gives the drive the FIS of a command (Serial ATA, "Register Host to Device FIS": 20 bytes), with the payload that the
@@ -560,12 +685,16 @@ OPAL_MUST_USE static inline opal_count opal_media(const opal_handle *handle, uin
 OPAL_MUST_USE static inline opal_answer opal_drive_accept(opal_handle *drive, const uint8_t *fis, size_t fis_length,
                                                           const void *payload, size_t payload_length)
 {
-    opal_answer refused = { opal_raw_from(drive, fis, fis_length), 0, 0, false, false, 0 };
-    if (refused.code == OPAL_DONE)
-        refused.code = opal_raw_buffer(payload, payload_length);
-    if (refused.code != OPAL_DONE)
-        return refused;
-    return opal_raw_drive_accept(drive, opal_raw_at(fis), fis_length, opal_raw_at(payload), payload_length);
+    opal_raw_call call;
+    opal_answer told = { opal_raw_from(drive, fis, fis_length), 0, 0, false, false, 0 };
+    if (told.code == OPAL_DONE)
+        told.code = opal_raw_buffer(payload, payload_length);
+    told.code = opal_raw_begin(&call, drive, told.code);
+    if (told.code != OPAL_DONE)
+        return told;
+    told = opal_raw_drive_accept(&call.object, opal_raw_at(fis), fis_length, opal_raw_at(payload), payload_length);
+    opal_raw_end(&call);
+    return told;
 }
 
 /* Moves the data of the command that is held under a tag, and lets it go. A write brings its payload:
@@ -573,44 +702,73 @@ OPAL_MUST_USE static inline opal_answer opal_drive_accept(opal_handle *drive, co
 OPAL_MUST_USE static inline opal_answer opal_drive_complete(opal_handle *drive, uint8_t tag, const void *payload,
                                                             size_t payload_length)
 {
-    opal_answer refused = { opal_raw_from(drive, payload, payload_length), 0, 0, false, false, 0 };
-    return refused.code != OPAL_DONE ? refused : opal_raw_drive_complete(drive, tag, opal_raw_at(payload), payload_length);
+    opal_raw_call call;
+    opal_answer told = { opal_raw_begin(&call, drive, opal_raw_from(drive, payload, payload_length)), 0, 0, false, false, 0 };
+    if (told.code != OPAL_DONE)
+        return told;
+    told = opal_raw_drive_complete(&call.object, tag, opal_raw_at(payload), payload_length);
+    opal_raw_end(&call);
+    return told;
 }
 
 /* Resets the drive (enum opal_reset). Refused: OPAL_NUMBER. */
 static inline opal_code opal_drive_reset(opal_handle *drive, uint32_t kind)
 {
-    opal_code fault = opal_raw_of(drive);
-    return fault != OPAL_DONE ? fault : opal_raw_drive_reset(drive, kind);
+    opal_raw_call call;
+    opal_code told = opal_raw_begin(&call, drive, opal_raw_of(drive));
+    if (told != OPAL_DONE)
+        return told;
+    told = opal_raw_drive_reset(&call.object, kind);
+    opal_raw_end(&call);
+    return told;
 }
 
 /* How many bytes of payload a command brings. Refused: OPAL_LENGTH. */
 OPAL_MUST_USE static inline opal_count opal_drive_payload(const opal_handle *drive, const uint8_t *fis, size_t fis_length)
 {
-    opal_count refused = { opal_raw_from(drive, fis, fis_length), 0 };
-    return refused.code != OPAL_DONE ? refused
-                                     : opal_raw_drive_payload((opal_handle *)drive, opal_raw_at(fis), fis_length);
+    opal_raw_call call;
+    opal_count told = { opal_raw_begin(&call, drive, opal_raw_from(drive, fis, fis_length)), 0 };
+    if (told.code != OPAL_DONE)
+        return told;
+    told = opal_raw_drive_payload(&call.object, opal_raw_at(fis), fis_length);
+    opal_raw_end(&call);
+    return told;
 }
 
 /* How many bytes of payload a completion under a tag brings. Refused: OPAL_TAG, OPAL_NOT_HELD. */
 OPAL_MUST_USE static inline opal_count opal_drive_expects(const opal_handle *drive, uint8_t tag)
 {
-    opal_count refused = { opal_raw_of(drive), 0 };
-    return refused.code != OPAL_DONE ? refused : opal_raw_drive_expects((opal_handle *)drive, tag);
+    opal_raw_call call;
+    opal_count told = { opal_raw_begin(&call, drive, opal_raw_of(drive)), 0 };
+    if (told.code != OPAL_DONE)
+        return told;
+    told = opal_raw_drive_expects(&call.object, tag);
+    opal_raw_end(&call);
+    return told;
 }
 
 /* How the queue has failed, if it has. */
 OPAL_MUST_USE static inline opal_failed opal_drive_failure(const opal_handle *drive)
 {
-    opal_failed refused = { opal_raw_of(drive), false, false, 0, 0, 0, 0, 0 };
-    return refused.code != OPAL_DONE ? refused : opal_raw_drive_failure((opal_handle *)drive);
+    opal_raw_call call;
+    opal_failed told = { opal_raw_begin(&call, drive, opal_raw_of(drive)), false, false, 0, 0, 0, 0, 0 };
+    if (told.code != OPAL_DONE)
+        return told;
+    told = opal_raw_drive_failure(&call.object);
+    opal_raw_end(&call);
+    return told;
 }
 
 /* Copies the data of the last answer, and tells how many bytes they are. Refused: OPAL_ROOM. */
 OPAL_MUST_USE static inline opal_count opal_drive_data(const opal_handle *drive, void *into, size_t length)
 {
-    opal_count refused = { opal_raw_into(drive, into, length), 0 };
-    return refused.code != OPAL_DONE ? refused : opal_raw_drive_data((opal_handle *)drive, opal_raw_at(into), length);
+    opal_raw_call call;
+    opal_count told = { opal_raw_begin(&call, drive, opal_raw_into(drive, into, length)), 0 };
+    if (told.code != OPAL_DONE)
+        return told;
+    told = opal_raw_drive_data(&call.object, opal_raw_at(into), length);
+    opal_raw_end(&call);
+    return told;
 }
 
 /* Copies the line of the audit log that tells what denied the last command, as `3 7 deny read 95+6 range 1 ReadLocked`:
@@ -619,9 +777,25 @@ OPAL_MUST_USE static inline opal_count opal_drive_data(const opal_handle *drive,
 OPAL_MUST_USE static inline opal_count opal_drive_denial(const opal_handle *drive, uint32_t client, char *into,
                                                          size_t length)
 {
-    opal_count refused = { opal_raw_into(drive, into, length), 0 };
-    return refused.code != OPAL_DONE ? refused
-                                     : opal_raw_drive_denial((opal_handle *)drive, client, opal_raw_at(into), length);
+    opal_raw_call call;
+    opal_count told = { opal_raw_begin(&call, drive, opal_raw_into(drive, into, length)), 0 };
+    if (told.code != OPAL_DONE)
+        return told;
+    told = opal_raw_drive_denial(&call.object, client, opal_raw_at(into), length);
+    opal_raw_end(&call);
+    return told;
+}
+
+/* What opal_drive_denial tells, in numbers. */
+OPAL_MUST_USE static inline opal_denied opal_drive_denied(const opal_handle *drive, uint32_t client)
+{
+    opal_raw_call call;
+    opal_denied told = { opal_raw_begin(&call, drive, opal_raw_of(drive)), 0, 0, 0, 0, false, 0, 0, 0, 0, 0, 0 };
+    if (told.code != OPAL_DONE)
+        return told;
+    told = opal_raw_drive_denied(&call.object, client);
+    opal_raw_end(&call);
+    return told;
 }
 
 /* Makes a port over the drive that is asked for, at a handle with nothing: one AHCI port with 32 command slots, on which
@@ -633,8 +807,8 @@ OPAL_MUST_USE static inline opal_code opal_port_new(opal_handle *port, const opa
 
 /* What follows are the steps of a port. Each that is done has the next number, from 1, and tells it; one that is refused
    has none, and the port is as before. A port keeps no history of them: it takes as much memory after any number of steps.
-   All can be refused with OPAL_NULL, OPAL_MISALIGNED, OPAL_NOT_OPEN, OPAL_OTHER_KIND and OPAL_OUT_OF_MEMORY. The engine's are
-   Issue, Accept, Complete and Recover. */
+   All can be refused with OPAL_NULL, OPAL_MISALIGNED, OPAL_NOT_OPEN, OPAL_BUSY, OPAL_OTHER_KIND and OPAL_OUT_OF_MEMORY. The
+   engine's are Issue, Accept, Complete and Recover. */
 
 /* A client puts a request in the slot of a tag, with a copy of the payload. Clients have numbers of your choice. Refused:
    OPAL_TAG, OPAL_NUMBER, OPAL_LENGTH (a command that brings no bytes has a payload), OPAL_PORT_SIZE, OPAL_PORT_SLOT_BUSY. */
@@ -642,22 +816,31 @@ OPAL_MUST_USE static inline opal_count opal_port_put(opal_handle *port, uint32_t
                                                      const opal_request *request, const void *payload,
                                                      size_t payload_length)
 {
-    opal_count refused = { opal_raw_from(port, payload, payload_length), 0 };
-    if (refused.code == OPAL_DONE && request == NULL)
-        refused.code = OPAL_NULL;
-    if (refused.code == OPAL_DONE && (uintptr_t)request % sizeof(uint64_t) != 0)
-        refused.code = OPAL_MISALIGNED;
-    if (refused.code != OPAL_DONE)
-        return refused;
-    return opal_raw_port_put(port, client, tag, *request, opal_raw_at(payload), payload_length);
+    opal_raw_call call;
+    opal_count told = { opal_raw_from(port, payload, payload_length), 0 };
+    if (told.code == OPAL_DONE && request == NULL)
+        told.code = OPAL_NULL;
+    if (told.code == OPAL_DONE && (uintptr_t)request % sizeof(uint64_t) != 0)
+        told.code = OPAL_MISALIGNED;
+    told.code = opal_raw_begin(&call, port, told.code);
+    if (told.code != OPAL_DONE)
+        return told;
+    told = opal_raw_port_put(&call.object, client, tag, *request, opal_raw_at(payload), payload_length);
+    opal_raw_end(&call);
+    return told;
 }
 
 /* The port issues the prepared command of a tag: its bit of PxCI is set, and of PxSACT where it is queued. Refused:
    OPAL_TAG, OPAL_PORT_FAILED, OPAL_PORT_NOT_PREPARED, OPAL_PORT_QUEUE. */
 OPAL_MUST_USE static inline opal_count opal_port_issue(opal_handle *port, uint8_t tag)
 {
-    opal_count refused = { opal_raw_of(port), 0 };
-    return refused.code != OPAL_DONE ? refused : opal_raw_port_issue(port, tag);
+    opal_raw_call call;
+    opal_count told = { opal_raw_begin(&call, port, opal_raw_of(port)), 0 };
+    if (told.code != OPAL_DONE)
+        return told;
+    told = opal_raw_port_issue(&call.object, tag);
+    opal_raw_end(&call);
+    return told;
 }
 
 /* The drive takes the issued command of a tag: a queued read or write is held, any other command is executed whole. A
@@ -665,74 +848,117 @@ OPAL_MUST_USE static inline opal_count opal_port_issue(opal_handle *port, uint8_
    OPAL_PORT_FAILED, OPAL_PORT_NOT_ISSUED. */
 OPAL_MUST_USE static inline opal_count opal_port_accept(opal_handle *port, uint8_t tag)
 {
-    opal_count refused = { opal_raw_of(port), 0 };
-    return refused.code != OPAL_DONE ? refused : opal_raw_port_accept(port, tag);
+    opal_raw_call call;
+    opal_count told = { opal_raw_begin(&call, port, opal_raw_of(port)), 0 };
+    if (told.code != OPAL_DONE)
+        return told;
+    told = opal_raw_port_accept(&call.object, tag);
+    opal_raw_end(&call);
+    return told;
 }
 
 /* The drive moves the data of the command that it holds under a tag, and ends it. Refused: OPAL_TAG, OPAL_PORT_FAILED,
    OPAL_PORT_NOT_ACCEPTED. */
 OPAL_MUST_USE static inline opal_count opal_port_complete(opal_handle *port, uint8_t tag)
 {
-    opal_count refused = { opal_raw_of(port), 0 };
-    return refused.code != OPAL_DONE ? refused : opal_raw_port_complete(port, tag);
+    opal_raw_call call;
+    opal_count told = { opal_raw_begin(&call, port, opal_raw_of(port)), 0 };
+    if (told.code != OPAL_DONE)
+        return told;
+    told = opal_raw_port_complete(&call.object, tag);
+    opal_raw_end(&call);
+    return told;
 }
 
 /* The port recovers from a queued command that failed: it is answered by log page 10h, and the others that were out are
    prepared again. Refused: OPAL_PORT_NOT_FAILED. */
 OPAL_MUST_USE static inline opal_count opal_port_recover(opal_handle *port)
 {
-    opal_count refused = { opal_raw_of(port), 0 };
-    return refused.code != OPAL_DONE ? refused : opal_raw_port_recover(port);
+    opal_raw_call call;
+    opal_count told = { opal_raw_begin(&call, port, opal_raw_of(port)), 0 };
+    if (told.code != OPAL_DONE)
+        return told;
+    told = opal_raw_port_recover(&call.object);
+    opal_raw_end(&call);
+    return told;
 }
 
 /* A client resets the port and the drive (enum opal_reset). What waits is answered as stopped. Refused: OPAL_NUMBER. */
 OPAL_MUST_USE static inline opal_count opal_port_reset(opal_handle *port, uint32_t client, uint32_t kind)
 {
-    opal_count refused = { opal_raw_of(port), 0 };
-    return refused.code != OPAL_DONE ? refused : opal_raw_port_reset(port, client, kind);
+    opal_raw_call call;
+    opal_count told = { opal_raw_begin(&call, port, opal_raw_of(port)), 0 };
+    if (told.code != OPAL_DONE)
+        return told;
+    told = opal_raw_port_reset(&call.object, client, kind);
+    opal_raw_end(&call);
+    return told;
 }
 
 /* A client takes its answer, and the slot is free. Refused: OPAL_TAG, OPAL_PORT_NOT_ANSWERED, OPAL_PORT_NOT_YOURS. */
 OPAL_MUST_USE static inline opal_taken opal_port_take(opal_handle *port, uint32_t client, uint8_t tag)
 {
-    opal_taken refused = { opal_raw_of(port), 0, 0, 0, 0, 0 };
-    return refused.code != OPAL_DONE ? refused : opal_raw_port_take(port, client, tag);
+    opal_raw_call call;
+    opal_taken told = { opal_raw_begin(&call, port, opal_raw_of(port)), 0, 0, 0, 0, 0 };
+    if (told.code != OPAL_DONE)
+        return told;
+    told = opal_raw_port_take(&call.object, client, tag);
+    opal_raw_end(&call);
+    return told;
 }
 
 /* The engine does a step of those that opal_port_ready lists: the one at `choice`, modulo their number. The number is 0
    where there is none. */
 OPAL_MUST_USE static inline opal_count opal_port_turn(opal_handle *port, size_t choice)
 {
-    opal_count refused = { opal_raw_of(port), 0 };
-    return refused.code != OPAL_DONE ? refused : opal_raw_port_turn(port, choice);
+    opal_raw_call call;
+    opal_count told = { opal_raw_begin(&call, port, opal_raw_of(port)), 0 };
+    if (told.code != OPAL_DONE)
+        return told;
+    told = opal_raw_port_turn(&call.object, choice);
+    opal_raw_end(&call);
+    return told;
 }
 
-/* What follows are no steps: the port is as before. All can be refused with OPAL_NULL, OPAL_MISALIGNED, OPAL_NOT_OPEN and
-   OPAL_OTHER_KIND; those with a buffer with OPAL_LENGTH and OPAL_SHARED. */
+/* What follows are no steps: the port is as before. All can be refused with OPAL_NULL, OPAL_MISALIGNED, OPAL_NOT_OPEN, OPAL_BUSY
+   and OPAL_OTHER_KIND; those with a buffer with OPAL_LENGTH and OPAL_SHARED. */
 
 /* Lists the steps that the engine may do, at most 32, by their kind, then by their tag, and tells how many they are.
    Refused: OPAL_ROOM. */
 OPAL_MUST_USE static inline opal_count opal_port_ready(const opal_handle *port, opal_ready *into, size_t length)
 {
-    opal_count refused = { length > SIZE_MAX / 2 / sizeof *into ? OPAL_LENGTH
-                                                                : opal_raw_into(port, into, length * sizeof *into), 0 };
-    if (refused.code != OPAL_DONE)
-        return refused;
-    return opal_raw_port_ready((opal_handle *)port, (opal_ready *)(void *)opal_raw_at(into), length);
+    opal_raw_call call;
+    opal_code fault = length > SIZE_MAX / 2 / sizeof *into ? OPAL_LENGTH : opal_raw_into(port, into, length * sizeof *into);
+    opal_count told = { opal_raw_begin(&call, port, fault), 0 };
+    if (told.code != OPAL_DONE)
+        return told;
+    told = opal_raw_port_ready(&call.object, (opal_ready *)(void *)opal_raw_at(into), length);
+    opal_raw_end(&call);
+    return told;
 }
 
 /* Copies the data of what was taken last, and tells how many bytes they are. Refused: OPAL_ROOM. */
 OPAL_MUST_USE static inline opal_count opal_port_data(const opal_handle *port, void *into, size_t length)
 {
-    opal_count refused = { opal_raw_into(port, into, length), 0 };
-    return refused.code != OPAL_DONE ? refused : opal_raw_port_data((opal_handle *)port, opal_raw_at(into), length);
+    opal_raw_call call;
+    opal_count told = { opal_raw_begin(&call, port, opal_raw_into(port, into, length)), 0 };
+    if (told.code != OPAL_DONE)
+        return told;
+    told = opal_raw_port_data(&call.object, opal_raw_at(into), length);
+    opal_raw_end(&call);
+    return told;
 }
 
 /* What the port shows: its registers, and how many denials there were. */
 OPAL_MUST_USE static inline opal_shown opal_port_shown(const opal_handle *port)
 {
-    opal_shown refused = { opal_raw_of(port), 0, 0, 0, 0, 0 };
-    return refused.code != OPAL_DONE ? refused : opal_raw_port_shown((opal_handle *)port);
+    opal_raw_call call;
+    opal_shown told = { opal_raw_begin(&call, port, opal_raw_of(port)), 0, 0, 0, 0, 0 };
+    if (told.code != OPAL_DONE)
+        return told;
+    told = opal_raw_port_shown(&call.object);
+    opal_raw_end(&call);
+    return told;
 }
 
 /* Copies the line of the audit log at a place, as `6 1 deny read 100+1 range 1 ReadLocked`: the number of the step, the
@@ -740,9 +966,54 @@ OPAL_MUST_USE static inline opal_shown opal_port_shown(const opal_handle *port)
    the 64 latest. Where it has no line there are no bytes. It has no zero behind it. Refused: OPAL_ROOM, OPAL_OUT_OF_MEMORY. */
 OPAL_MUST_USE static inline opal_count opal_port_denial(const opal_handle *port, size_t place, char *into, size_t length)
 {
-    opal_count refused = { opal_raw_into(port, into, length), 0 };
-    return refused.code != OPAL_DONE ? refused
-                                     : opal_raw_port_denial((opal_handle *)port, place, opal_raw_at(into), length);
+    opal_raw_call call;
+    opal_count told = { opal_raw_begin(&call, port, opal_raw_into(port, into, length)), 0 };
+    if (told.code != OPAL_DONE)
+        return told;
+    told = opal_raw_port_denial(&call.object, place, opal_raw_at(into), length);
+    opal_raw_end(&call);
+    return told;
+}
+
+/* What opal_port_denial tells, in numbers: of a place where the port has no line it tells none. */
+OPAL_MUST_USE static inline opal_denied opal_port_denied(const opal_handle *port, size_t place)
+{
+    opal_raw_call call;
+    opal_denied told = { opal_raw_begin(&call, port, opal_raw_of(port)), 0, 0, 0, 0, false, 0, 0, 0, 0, 0, 0 };
+    if (told.code != OPAL_DONE)
+        return told;
+    told = opal_raw_port_denied(&call.object, place);
+    opal_raw_end(&call);
+    return told;
+}
+
+/* Copies the denials from a place on, the oldest first, as many as there is room for, and tells how many they are. The place is
+   moved behind the last of them: so the next call lists those since. It begins as 0; a place whose line the port keeps no more
+   is left out. Refused, and then the place is as before: also OPAL_NULL and OPAL_MISALIGNED of the two pointers. */
+OPAL_MUST_USE static inline opal_count opal_port_denials(const opal_handle *port, size_t *place, opal_denied *into, size_t length)
+{
+    opal_count told = { opal_raw_from(port, into, length > SIZE_MAX / 2 / sizeof *into ? SIZE_MAX : length * sizeof *into), 0 };
+    if (told.code == OPAL_DONE && place == NULL)
+        told.code = OPAL_NULL;
+    if (told.code == OPAL_DONE && ((uintptr_t)place % sizeof(size_t) != 0 || (uintptr_t)into % sizeof(uint64_t) != 0))
+        told.code = OPAL_MISALIGNED;
+    if (told.code != OPAL_DONE)
+        return told;
+    opal_shown shown = opal_port_shown(port);
+    told.code = shown.code;
+    size_t at = *place;
+    if (shown.denials >= OPAL_MOST_DENIALS && at < shown.denials - OPAL_MOST_DENIALS)
+        at = shown.denials - OPAL_MOST_DENIALS;
+    for (; told.code == OPAL_DONE && told.number < length && at < shown.denials; at++) {
+        into[told.number] = opal_port_denied(port, at);
+        told.code = into[told.number].code;
+        told.number += into[told.number].reason != OPAL_REASON_NONE;
+    }
+    if (told.code == OPAL_DONE)
+        *place = at;
+    else
+        told.number = 0;
+    return told;
 }
 
 /* Makes a controller over the drive that is asked for, at a handle with nothing: an AHCI host bus adapter with one port, as
@@ -752,37 +1023,57 @@ OPAL_MUST_USE static inline opal_code opal_hba_new(opal_handle *hba, const opal_
     return opal_raw_new(opal_raw_hba_new, hba, config);
 }
 
-/* What follows are the calls of a controller. All can be refused with OPAL_NULL, OPAL_MISALIGNED, OPAL_NOT_OPEN and
+/* What follows are the calls of a controller. All can be refused with OPAL_NULL, OPAL_MISALIGNED, OPAL_NOT_OPEN, OPAL_BUSY and
    OPAL_OTHER_KIND; those with a buffer with OPAL_LENGTH and OPAL_SHARED. */
 
 /* The 32 bits at an offset of the registers: the generic ones from 0h, the port's from 100h; 0 where no register is. Nothing
    changes. */
 OPAL_MUST_USE static inline opal_count opal_hba_read(const opal_handle *hba, uint32_t offset)
 {
-    opal_count refused = { opal_raw_of(hba), 0 };
-    return refused.code != OPAL_DONE ? refused : opal_raw_hba_read((opal_handle *)hba, offset);
+    opal_raw_call call;
+    opal_count told = { opal_raw_begin(&call, hba, opal_raw_of(hba)), 0 };
+    if (told.code != OPAL_DONE)
+        return told;
+    told = opal_raw_hba_read(&call.object, offset);
+    opal_raw_end(&call);
+    return told;
 }
 
 /* Writes 32 bits of the registers; nothing where no register is. No memory moves. */
 static inline opal_code opal_hba_write(opal_handle *hba, uint32_t offset, uint32_t value)
 {
-    opal_code fault = opal_raw_of(hba);
-    return fault != OPAL_DONE ? fault : opal_raw_hba_write(hba, offset, value);
+    opal_raw_call call;
+    opal_code told = opal_raw_begin(&call, hba, opal_raw_of(hba));
+    if (told != OPAL_DONE)
+        return told;
+    told = opal_raw_hba_write(&call.object, offset, value);
+    opal_raw_end(&call);
+    return told;
 }
 
 /* The interrupt line: 0 or 1. */
 OPAL_MUST_USE static inline opal_count opal_hba_interrupt(const opal_handle *hba)
 {
-    opal_count refused = { opal_raw_of(hba), 0 };
-    return refused.code != OPAL_DONE ? refused : opal_raw_hba_interrupt((opal_handle *)hba);
+    opal_raw_call call;
+    opal_count told = { opal_raw_begin(&call, hba, opal_raw_of(hba)), 0 };
+    if (told.code != OPAL_DONE)
+        return told;
+    told = opal_raw_hba_interrupt(&call.object);
+    opal_raw_end(&call);
+    return told;
 }
 
 /* The controller and its drive lose power, and have it again: the drive is reset by it, and the registers are those of a new
    controller. */
 static inline opal_code opal_hba_power_cycle(opal_handle *hba)
 {
-    opal_code fault = opal_raw_of(hba);
-    return fault != OPAL_DONE ? fault : opal_raw_hba_power_cycle(hba);
+    opal_raw_call call;
+    opal_code told = opal_raw_begin(&call, hba, opal_raw_of(hba));
+    if (told != OPAL_DONE)
+        return told;
+    told = opal_raw_hba_power_cycle(&call.object);
+    opal_raw_end(&call);
+    return told;
 }
 
 /* The controller does a work of those that are ready, the one of the number `choice`, modulo how many they are: the
@@ -792,8 +1083,13 @@ static inline opal_code opal_hba_power_cycle(opal_handle *hba)
 OPAL_MUST_USE static inline opal_worked opal_hba_turn(opal_handle *hba, size_t choice, uint32_t base, void *memory,
                                                       size_t length)
 {
-    opal_worked refused = { opal_raw_into(hba, memory, length), 0, 0, 0, false };
-    return refused.code != OPAL_DONE ? refused : opal_raw_hba_turn(hba, choice, base, opal_raw_at(memory), length);
+    opal_raw_call call;
+    opal_worked told = { opal_raw_begin(&call, hba, opal_raw_into(hba, memory, length)), 0, 0, 0, false };
+    if (told.code != OPAL_DONE)
+        return told;
+    told = opal_raw_hba_turn(&call.object, choice, base, opal_raw_at(memory), length);
+    opal_raw_end(&call);
+    return told;
 }
 
 /* Copies the line of the audit log that tells what denied the command of the last turn, as
@@ -801,8 +1097,25 @@ OPAL_MUST_USE static inline opal_worked opal_hba_turn(opal_handle *hba, size_t c
    did. It has no zero behind it. Refused: OPAL_ROOM, OPAL_OUT_OF_MEMORY. */
 OPAL_MUST_USE static inline opal_count opal_hba_denial(const opal_handle *hba, char *into, size_t length)
 {
-    opal_count refused = { opal_raw_into(hba, into, length), 0 };
-    return refused.code != OPAL_DONE ? refused : opal_raw_hba_denial((opal_handle *)hba, opal_raw_at(into), length);
+    opal_raw_call call;
+    opal_count told = { opal_raw_begin(&call, hba, opal_raw_into(hba, into, length)), 0 };
+    if (told.code != OPAL_DONE)
+        return told;
+    told = opal_raw_hba_denial(&call.object, opal_raw_at(into), length);
+    opal_raw_end(&call);
+    return told;
+}
+
+/* What opal_hba_denial tells, in numbers. */
+OPAL_MUST_USE static inline opal_denied opal_hba_denied(const opal_handle *hba)
+{
+    opal_raw_call call;
+    opal_denied told = { opal_raw_begin(&call, hba, opal_raw_of(hba)), 0, 0, 0, 0, false, 0, 0, 0, 0, 0, 0 };
+    if (told.code != OPAL_DONE)
+        return told;
+    told = opal_raw_hba_denied(&call.object);
+    opal_raw_end(&call);
+    return told;
 }
 
 /* What follows are calls of bytes alone. All can be refused with OPAL_NULL, OPAL_LENGTH and OPAL_SHARED. */
@@ -899,6 +1212,7 @@ static inline const char *opal_error_text(uint32_t code)
         return "header and library are of versions that do not fit, or a configuration lacks its size";
     case OPAL_SHARED: return "a buffer that is written has a byte in common with another one, or with the handle";
     case OPAL_MISALIGNED: return "a pointer to a struct is no multiple of 8";
+    case OPAL_BUSY: return "another call is at work on the object of the handle";
     case OPAL_PORT_SLOT_BUSY: return "the slot is not free";
     case OPAL_PORT_NOT_PREPARED: return "the slot has no prepared command";
     case OPAL_PORT_QUEUE: return "queued and other commands would mix";

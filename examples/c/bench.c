@@ -76,6 +76,9 @@ static void denied_and_recovered(void)
     must(answer.status == OPAL_STATUS_FAILED && answer.error == OPAL_ERROR_ABORTED && answer.denied,
          "a locked sector was read");
     tell("READ DMA EXT of 100", answer);
+    opal_denied denied = opal_drive_denied(&drive, 7);
+    must(denied.reason == OPAL_REASON_READ_LOCKED && denied.range == 1 && denied.lba == 100 && denied.count == 1,
+         "the numbers of the denial are others");
 
     answer = give(OPAL_READ_QUEUED, 95, 6, 3, NULL, 0);
     must(answer.status == OPAL_STATUS_FAILED && answer.denied && !answer.held, "a locked sector is held for a read");
@@ -121,7 +124,7 @@ static void unlocked(void)
 static void refused(void)
 {
     uint8_t fis[20], byte = 0;
-    opal_handle none = OPAL_NONE, noise = { 0x1122334455667788, &byte };
+    opal_handle none = OPAL_NONE, noise = { 0x1122334455667788, 0x1122334455667788 };
     must(opal_command_fis(OPAL_READ_DMA, 0, 1, 0, fis, sizeof fis).code == OPAL_DONE, "no FIS");
     printf("a null handle: %s\n", opal_error_text(opal_drive_accept(NULL, fis, sizeof fis, NULL, 0).code));
     printf("a null FIS: %s\n", opal_error_text(opal_drive_accept(&drive, NULL, sizeof fis, NULL, 0).code));

@@ -78,6 +78,9 @@ int main(void)
     must(read_register(PxIS) & TASK_ERROR, "PxIS tells no error");
     opal_count told = opal_hba_denial(&hba, line, sizeof line);
     printf("%.*s\n", (int)told.number, line);
+    must(opal_hba_denied(&hba).reason == OPAL_REASON_READ_LOCKED && opal_hba_denied(&hba).lba == 100, "another denial is told");
+    told = opal_remedy(&hba, 0, line, sizeof line);
+    printf("%.*s\n", (int)told.number, line);
 
     write_register(PxCMD, FRE); /* the port stops, its errors are cleared, and it starts again */
     write_register(PxIS, read_register(PxIS));

@@ -62,6 +62,14 @@ static void failed_and_recovered(void)
     must(opal_port_shown(&port).denials == 1, "the audit log has another number of lines");
     opal_count told = opal_port_denial(&port, 0, line, sizeof line);
     printf("  %.*s\n", (int)told.number, line);
+    opal_denied denied = opal_port_denied(&port, 0);
+    must(denied.reason == OPAL_REASON_READ_LOCKED && denied.range == 1 && denied.client == ALICE && denied.step == 6,
+         "the numbers of the denial are others");
+    must(opal_port_denied(&port, 1).reason == OPAL_REASON_NONE, "there is another denial");
+    opal_denied list[4];
+    size_t place = 0;
+    must(opal_port_denials(&port, &place, list, 4).number == 1 && list[0].lba == 100 && place == 1, "the list has others");
+    must(opal_port_denials(&port, &place, list, 4).number == 0 && place == 1, "a denial is listed twice");
 
     must(opal_port_complete(&port, 5).code == OPAL_PORT_FAILED, "a failed port goes on");
     step("the port recovers", opal_port_recover(&port), 7);

@@ -8,8 +8,8 @@ import pickle
 import threading
 import unittest
 
-from opalport import (Code, Command, Drive, EngineStep, Failure, Hba, Kind, OpalError, Port, Range, Reset, Taken, Went, Work,
-                      Worked, command_fis, decoded_text, frame, library_version, opened, tokens_text, trusted_fis)
+from opalport import (Code, Command, Denied, Drive, EngineStep, Failure, Hba, Kind, OpalError, Port, Range, Reason, Reset, Taken,
+                      Went, Work, Worked, command_fis, decoded_text, frame, library_version, opened, tokens_text, trusted_fis)
 from opalport_pipe import PipedDrive
 
 LOCKED = Range(1, 100, 10, True, True, True, True)
@@ -18,6 +18,11 @@ SECURITY, COM_ID, SECTOR = 1, 0x1000, 512
 START = bytes.fromhex("f8a800000000000000ffa8000000000000ff02f007a8000002050000000201f200a84f50414c4d534944f3f203"
                       "a80000000900010001f3f1f9f0000000f1")
 UNLOCK = bytes.fromhex("f8a80000080200030001a80000000600000017f0f201f0f20700f3f20800f3f1f3f1f9f0000000f1")
+# What lifts a read lock of range 1: the ACEs of its Set that name the column (Opal SSC 2.01, Locking SP's AccessControl).
+LIFTED = ("lifted by: Set of Locking_Range1 ReadLocked = 0 by Admins (ACE_Locking_Admins_RangeStartToLOR), or by Admins "
+          "(ACE_Locking_Range1_Set_RdLocked)")
+# StartSession on the Locking SP without an authority.
+START_AS_ANYBODY = bytes.fromhex("f8a800000000000000ffa8000000000000ff02f007a8000002050000000201f1f9f0000000f1")
 
 
 def read(lba, count=1):
@@ -46,6 +51,26 @@ class OnADrive(unittest.TestCase):
         self.assertEqual(self.drive.denial(7), "1 7 deny read 95+6 range 1 ReadLocked")
         self.assertEqual(self.drive.accept(read(0)).data, bytes(SECTOR))
         self.assertEqual(self.drive.denial(7), "")
+
+    def test_a_denial_is_told_in_numbers(self):
+        self.drive.accept(read(95, 6))
+        self.assertEqual(self.drive.denied(7), Denied(1, 7, Reason.READ_LOCKED, lba=95, count=6, range=1))
+        self.assertEqual(self.drive.remedy(), LIFTED)
+        self.drive.accept(command_fis(Command.WRITE_DMA, 109), bytes(SECTOR))
+        self.assertEqual(self.drive.denied(), Denied(2, 0, Reason.WRITE_LOCKED, lba=109, count=1, range=1))
+        self.drive.accept(read(0))
+        self.assertIsNone(self.drive.denied(7))
+        self.assertEqual(self.drive.remedy(), "")
+
+    def test_a_denied_call_is_told_in_numbers(self):
+        send = trusted_fis(True, SECURITY, COM_ID, 1)
+        self.drive.accept(send, frame(COM_ID, 0, 0, START.replace(b"OPALMSID", b"OPALMSIE")).ljust(SECTOR, b"\0"))
+        self.assertEqual(self.drive.denied(), Denied(1, 0, Reason.WRONG_PIN, sp="Locking", object=0x0000000900010001))
+        self.drive.accept(trusted_fis(False, SECURITY, COM_ID, 1))
+        self.call(0, 0, START_AS_ANYBODY)
+        self.drive.accept(send, frame(COM_ID, 0x1000, 7, UNLOCK).ljust(SECTOR, b"\0"))
+        self.assertEqual(self.drive.denied(), Denied(5, 0, Reason.NO_ACE, sp="Locking", object=0x0000080200030001,
+                                                     method=0x0000000600000017, column=7))
 
     def test_a_denial_keeps_its_number_until_the_next_command(self):
         self.drive.accept(read(95, 6))
@@ -238,6 +263,10 @@ class OnAPort(unittest.TestCase):
         self.assertEqual((shown.task, shown.issued, shown.active, shown.denials), (0x0451, 0x08, 0x28, 1))
         self.assertEqual(self.port.denial(0), "6 1 deny read 100+1 range 1 ReadLocked")
         self.assertEqual(self.port.denial(1), "")
+        denied = Denied(6, 1, Reason.READ_LOCKED, lba=100, count=1, range=1)
+        self.assertEqual((self.port.denied(0), self.port.denied(1)), (denied, None))
+        self.assertEqual((self.port.denials(), self.port.denials(shown.denials)), ([denied], []))
+        self.assertEqual((self.port.remedy(0), self.port.remedy(1)), (LIFTED, ""))
         self.refuses(Code.PORT_FAILED, self.port.complete, 5)
         self.assertEqual(self.port.ready(), [(EngineStep.RECOVER, 0)])
         self.assertEqual(self.port.recover(), 7)
@@ -333,6 +362,8 @@ class OnAController(unittest.TestCase):
         self.assertEqual(self.read(100), Worked(Work.FETCH, 0, Went.SERVED, True))
         self.assertEqual((self.hba.read(self.PxTFD), self.memory[0x3000]), (0x0451, 0xff))
         self.assertEqual(self.hba.denial(), "1 0 deny read 100+1 range 1 ReadLocked")
+        self.assertEqual(self.hba.denied(), Denied(1, 0, Reason.READ_LOCKED, lba=100, count=1, range=1))
+        self.assertEqual(self.hba.remedy(), LIFTED)
         self.hba.power_cycle()
         self.assertEqual((self.hba.read(self.PxCLB), self.hba.read(self.PxCI), self.hba.interrupt()), (0, 0, False))
         self.start()

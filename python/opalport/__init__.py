@@ -22,9 +22,9 @@ from types import TracebackType
 from typing import Any, List, Optional, Sequence, Tuple, Type, TypeVar, Union
 
 __all__ = [
-    "Answer", "Carried", "ClosedError", "Code", "Command", "Drive", "EngineStep", "Failure", "Hba", "Kind", "OpalError", "Port",
-    "Range", "Reset", "Shown", "Taken", "Went", "Work", "Worked", "command_fis", "decoded_text", "frame", "library_version",
-    "opened", "tokens_text", "trusted_fis",
+    "Answer", "Carried", "ClosedError", "Code", "Command", "Denied", "Drive", "EngineStep", "Failure", "Hba", "Kind", "OpalError",
+    "Port", "Range", "Reason", "Reset", "Shown", "Taken", "Went", "Work", "Worked", "command_fis", "decoded_text", "frame",
+    "library_version", "opened", "tokens_text", "trusted_fis",
 ]
 
 __version__ = "0.2.0"
@@ -69,6 +69,7 @@ class Code(enum.IntEnum):
     VERSION_DIFFERS = 25
     SHARED = 26
     MISALIGNED = 27
+    BUSY = 28
     PORT_SLOT_BUSY = 101
     PORT_NOT_PREPARED = 102
     PORT_QUEUE = 103
@@ -109,6 +110,7 @@ _WORDS = {
     Code.VERSION_DIFFERS: "the module and the library are of versions that do not fit; OPALPORT_LIBRARY names another library",
     Code.SHARED: "a buffer that is written has a byte in common with another one",
     Code.MISALIGNED: "a pointer to a struct is not aligned",
+    Code.BUSY: "another call is at work on the object",
     Code.PORT_SLOT_BUSY: "the slot is not free; take its answer first, or use another tag",
     Code.PORT_NOT_PREPARED: "the slot has no prepared command; put one first",
     Code.PORT_QUEUE: "queued and other commands would mix; wait until the others have ended",
@@ -295,6 +297,40 @@ class Worked:
     denied: bool
 
 
+class Reason(enum.IntEnum):
+    """What denied an act."""
+
+    READ_LOCKED = 1
+    WRITE_LOCKED = 2
+    READ_SHADOW = 3
+    WRITE_SHADOW = 4
+    NO_ACE = 5
+    NO_ACCESS = 6
+    WRONG_PIN = 7
+    LOCKED_OUT = 8
+    DISABLED = 9
+    BLOCKED = 10
+    UNKNOWN = 11
+
+
+@dataclass(frozen=True)
+class Denied:
+    """A denial: the number of the act, or of a port's step, the client, and what denied it. A transfer has `lba` and `count`, and
+    of a locked range `range`; a method has `sp`, `object`, `method`, and the first `column` that is denied; an attempt to
+    authenticate has `sp`, and the authority as its `object`. UIDs are numbers; the rest is None."""
+
+    step: int
+    client: int
+    reason: Reason
+    lba: Optional[int] = None
+    count: Optional[int] = None
+    range: Optional[int] = None
+    sp: Optional[str] = None
+    object: Optional[int] = None
+    method: Optional[int] = None
+    column: Optional[int] = None
+
+
 class _Handle(ctypes.Structure):
     _fields_ = [("mark", ctypes.c_uint64), ("place", ctypes.c_void_p)]
 
@@ -354,6 +390,12 @@ class _Worked(ctypes.Structure):
                 ("denied", ctypes.c_bool)]
 
 
+class _Denied(ctypes.Structure):
+    _fields_ = [("code", ctypes.c_uint32), ("client", ctypes.c_uint32), ("reason", ctypes.c_uint8), ("sp", ctypes.c_uint8),
+                ("range", ctypes.c_uint8), ("has_column", ctypes.c_bool), ("count", ctypes.c_uint32), ("step", ctypes.c_uint64),
+                ("lba", ctypes.c_uint64), ("object", ctypes.c_uint64), ("method", ctypes.c_uint64), ("column", ctypes.c_uint64)]
+
+
 class _About(ctypes.Structure):
     _fields_ = [("code", ctypes.c_uint32), ("kind", ctypes.c_uint8), ("profile", ctypes.c_uint8),
                 ("sectors", ctypes.c_uint64), ("shadow", ctypes.c_uint64)]
@@ -367,6 +409,7 @@ _CALLS = {
     "version_text": (_Count, _BYTES),
     "about": (_About, _HANDLE),
     "media": (_Count, [*_HANDLE, ctypes.c_uint64, *_BYTES]),
+    "remedy": (_Count, [*_HANDLE, ctypes.c_size_t, *_BYTES]),
     "drive_new": (ctypes.c_uint32, _MAKE),
     "free": (ctypes.c_uint32, _HANDLE),
     "drive_accept": (_Answer, [*_HANDLE, *_BYTES, *_BYTES]),
@@ -377,6 +420,7 @@ _CALLS = {
     "drive_failure": (_Failed, _HANDLE),
     "drive_data": (_Count, [*_HANDLE, *_BYTES]),
     "drive_denial": (_Count, [*_HANDLE, ctypes.c_uint32, *_BYTES]),
+    "drive_denied": (_Denied, [*_HANDLE, ctypes.c_uint32]),
     "port_new": (ctypes.c_uint32, _MAKE),
     "port_put": (_Count, [*_HANDLE, ctypes.c_uint32, ctypes.c_uint8, _Asked, *_BYTES]),
     "port_issue": (_Count, [*_HANDLE, ctypes.c_uint8]),
@@ -390,6 +434,7 @@ _CALLS = {
     "port_data": (_Count, [*_HANDLE, *_BYTES]),
     "port_shown": (_Shown, _HANDLE),
     "port_denial": (_Count, [*_HANDLE, ctypes.c_size_t, *_BYTES]),
+    "port_denied": (_Denied, [*_HANDLE, ctypes.c_size_t]),
     "hba_new": (ctypes.c_uint32, _MAKE),
     "hba_read": (_Count, [*_HANDLE, ctypes.c_uint32]),
     "hba_write": (ctypes.c_uint32, [*_HANDLE, ctypes.c_uint32, ctypes.c_uint32]),
@@ -397,6 +442,7 @@ _CALLS = {
     "hba_power_cycle": (ctypes.c_uint32, _HANDLE),
     "hba_turn": (_Worked, [*_HANDLE, ctypes.c_size_t, ctypes.c_uint32, *_BYTES]),
     "hba_denial": (_Count, [*_HANDLE, *_BYTES]),
+    "hba_denied": (_Denied, _HANDLE),
     "tokens": (_Count, [ctypes.c_bool, *_BYTES, *_BYTES]),
     "decoded": (_Count, [ctypes.c_uint32, *_BYTES, *_BYTES]),
     "frame": (_Count, [ctypes.c_uint16, ctypes.c_uint32, ctypes.c_uint32, *_BYTES, *_BYTES]),
@@ -476,6 +522,19 @@ def _written(call: Any, *arguments: Any, room: int = 512) -> bytes:
 def library_version() -> str:
     """The version of the library, as `0.2.0`, or `0.2.0 unproved` of one that was built without proofs."""
     return _written(_LIBRARY.version_text).decode("ascii")
+
+
+def _denied(told: _Denied) -> Optional[Denied]:
+    _check(told.code)
+    if told.reason == 0:
+        return None
+    reason = Reason(told.reason)
+    if reason <= Reason.WRITE_SHADOW:
+        locked = told.range if reason <= Reason.WRITE_LOCKED else None
+        return Denied(told.step, told.client, reason, lba=told.lba, count=told.count, range=locked)
+    called = told.method if reason <= Reason.NO_ACCESS else None
+    return Denied(told.step, told.client, reason, sp={1: "Admin", 2: "Locking"}[told.sp], object=told.object, method=called,
+                  column=told.column if told.has_column else None)
 
 
 def tokens_text(data: Bytes, by_name: bool = False) -> str:
@@ -579,6 +638,10 @@ class _Object:
         with self._lock:
             return _written(_LIBRARY.media, self._handle, _within(lba, 2**64 - 1))
 
+    def _remedy(self, place: int) -> str:
+        with self._lock:
+            return _written(_LIBRARY.remedy, self._handle, _within(place, 2**64 - 1)).decode("ascii")
+
     def _number(self, call: Any, *arguments: Any) -> int:
         with self._lock:
             told = call(self._handle, *arguments)
@@ -645,6 +708,16 @@ class Drive(_Object):
         `3 7 deny read 95+6 range 1 ReadLocked`; empty where nothing did."""
         with self._lock:
             return _written(_LIBRARY.drive_denial, self._handle, _within(client, 2**32 - 1)).decode("ascii")
+
+    def denied(self, client: int = 0) -> Optional[Denied]:
+        """What denied the last command, in numbers; None where nothing did."""
+        with self._lock:
+            return _denied(_LIBRARY.drive_denied(self._handle, _within(client, 2**32 - 1)))
+
+    def remedy(self) -> str:
+        """What would lift what denied the last command, by the rows in force, as `lifted by: Set of Locking_Range1 ReadLocked = 0
+        by Admins (ACE_Locking_Range1_Set_RdLocked)`; empty where nothing did."""
+        return self._remedy(0)
 
 
 class Port(_Object):
@@ -713,6 +786,21 @@ class Port(_Object):
         with self._lock:
             return _written(_LIBRARY.port_denial, self._handle, _within(place, 2**64 - 1)).decode("ascii")
 
+    def denied(self, place: int) -> Optional[Denied]:
+        """The denial at a place, 0 the oldest, in numbers; None where it is none of the 64 latest."""
+        with self._lock:
+            return _denied(_LIBRARY.port_denied(self._handle, _within(place, 2**64 - 1)))
+
+    def remedy(self, place: int) -> str:
+        """What would lift the denial at a place, by the rows in force now, as `Drive.remedy`."""
+        return self._remedy(place)
+
+    def denials(self, since: int = 0) -> List[Denied]:
+        """The denials from a place on, the oldest first, as many as the port keeps: `shown().denials` is the place to ask from
+        the next time."""
+        found = [self.denied(place) for place in range(max(since, self.shown().denials - 64), self.shown().denials)]
+        return [it for it in found if it is not None]
+
 
 class Hba(_Object):
     """An AHCI controller with one port, and the drive behind it: registers, and memory of yours."""
@@ -752,6 +840,15 @@ class Hba(_Object):
         `1 0 deny read 100+1 range 1 ReadLocked`; empty where nothing did."""
         with self._lock:
             return _written(_LIBRARY.hba_denial, self._handle).decode("ascii")
+
+    def denied(self) -> Optional[Denied]:
+        """What denied the command of the last turn, in numbers; None where nothing did."""
+        with self._lock:
+            return _denied(_LIBRARY.hba_denied(self._handle))
+
+    def remedy(self) -> str:
+        """What would lift what denied the command of the last turn, as `Drive.remedy`."""
+        return self._remedy(0)
 
 
 def _tag(tag: int) -> int:

@@ -2,7 +2,7 @@
 use Rattle.device_data.specs.Protocols.{protocol_list}
 use Rattle.trusted_cmds.specs.declared.command.CommandError.{CommandError}
 use Rattle.sp_cells.specs.Config.{Config}
-use Rattle.std.proofs.Common.{◌≡◌, ℕ, ◌<◌, ◌==◌, ◌*◌, Bool, true, false, List, [], ◌∷◌, ◌++◌, reverse, length, slice_index, Option, Some, None, Result, Ok, Err, is_some, refl, sym, subst, ap, ◌∙◌, cond, if◌then◌else◌, arith}
+use Rattle.std.proofs.Common.{◌≡◌, ℕ, ◌<◌, ◌==◌, ◌*◌, Bool, true, false, List, [], ◌∷◌, ◌++◌, reverse, length, slice_index, Option, Some, None, Result, Ok, Err, is_some, refl, sym, subst, ap, ◌∙◌, if◌then◌else◌, arith}
 use Rattle.std.specs.Prelude.{nat_le, unwrap_or}
 use Rattle.audit.specs.declared.reason.Why.{Why}
 use Rattle.fis.specs.H2d.{h2d_at}
@@ -32,7 +32,7 @@ use Rattle.basics.specs.declared.profile.Profile.{Profile}
 use Rattle.sp_cells.specs.Resets.{programmatic}
 use Rattle.history.specs.Opening.{Origin}
 use Rattle.sessions.specs.Deeds.{Begun}
-use Rattle.history.specs.Events.{Deed, Nothing, InSession, OfQueue, QueueMended, Took, WasReset, BlockedSid, Event, did, ignores}
+use Rattle.history.specs.Events.{Deed, Nothing, OfQueue, QueueMended, Took, WasReset, BlockedSid, Event, did, ignores}
 use Rattle.history.specs.Readers.{waiting, writing}
 use Rattle.history.specs.Facts.{Facts, facts, session_named}
 use Rattle.history.specs.Decisions.{received, aborted}
@@ -46,11 +46,9 @@ use Rattle.drive.specs.declared.decision.Cause.{Cause}
 use Rattle.drive.specs.declared.decision.Cause.TheVariants as causes
 use Rattle.drive.specs.declared.decision.Decision.{Decision}
 use Rattle.drive.specs.declared.decision.Decision.TheVariants.{Aborts, FailsQueue, Holds, Moves, Executes, Restarts, Blocks}
-use Rattle.drive.specs.declared.queue.Queue.{Queue}
 use Rattle.drive.specs.declared.transfer.Held.{Held}
-use Rattle.drive.specs.declared.transfer.Transfer.{Transfer}
-use Rattle.drive.specs.Transfer.{transfer_by, queued_command, unqueued_command, verdict_held, held_bytes, sector_then}
-use Rattle.drive.specs.Queue.{with_slot, failed_queue, mended_queue}
+use Rattle.drive.specs.Transfer.{transfer_by, queued_command, unqueued_command, held_bytes, sector_then}
+use Rattle.drive.specs.Queue.{with_slot, failed_queue}
 use Rattle.drive.specs.Decision.{ranges_of, transfer_deed, executed, reason, ruling, decision_event, CanExecute, IsMoved}
 use Rattle.std.proofs.lemmas.Bool.Decides.{nat_tests}
 use Rattle.std.proofs.lemmas.List.{reverse-append}
@@ -58,7 +56,7 @@ use Rattle.drive.specs.State.{DriveState, kept_facts, KeepsDrive, Agrees, Agrees
 use Rattle.drive.specs.Answers.{fises_in, IsAnswer, IsDoneAndAnswered}
 use Rattle.shadow_mbr.specs.declared.erasure.Erasure.{Erasure}
 use Rattle.shadow_mbr.specs.Erasure.{is_erased}
-use Rattle.drive.proofs.Keeping.{seen-is, nothing-keeps, failed-keeps, holds-keeps, moved-keeps, mended-keeps, tper-keeps, sends-of-tper, sends-erase, sent-deed, IsOfTper, of_tper}
+use Rattle.drive.proofs.Keeping.{seen-is, nothing-keeps, failed-keeps, holds-keeps, moved-keeps, tper-keeps, sends-of-tper, sends-erase, sent-deed, IsOfTper, of_tper}
 use Rattle.audit.specs.declared.rules.rule.Rule.TheVariants.{NoCommand, NoFrame}
 use Rattle.audit.specs.declared.rules.rule.Rule.{Rule}
 

@@ -1,5 +1,5 @@
 -- How many bytes come with a transfer that is not queued, under each profile.
-use Rattle.std.proofs.Common.{◌≡◌, ◌∙◌, ℕ, ◌*◌, ◌==◌, ◌||◌, Bool, true, false, not, List, Option, Some, None, Result, Ok, Err, refl, sym, ap, cond, eqb-true}
+use Rattle.std.proofs.Common.{◌≡◌, ◌∙◌, ℕ, ◌*◌, ◌==◌, Bool, true, false, not, Option, Some, None, Result, Ok, Err, refl, sym, ap, cond, eqb-true}
 use Rattle.std.specs.Prelude.{option_map}
 use Rattle.basics.specs.declared.profile.Profile.{Profile}
 use Rattle.basics.specs.declared.profile.Profile.TheVariants.{Base, Field}

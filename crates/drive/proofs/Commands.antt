@@ -2,7 +2,7 @@
 use Rattle.basics.specs.declared.profile.Profile.TheVariants.{Base, Field}
 use Rattle.basics.specs.declared.profile.Profile.{Profile}
 use Rattle.trusted_cmds.specs.Profiles.{CarriesIn}
-use Rattle.std.proofs.Common.{◌≡◌, ◌==◌, slice_index, ℕ, Bool, true, false, not, ◌&&◌, ◌||◌, List, Option, Some, None, is_some, option_map, Result, Ok, Err, refl, sym, subst, ap, ◌∙◌, cond, inl, inr}
+use Rattle.std.proofs.Common.{◌≡◌, ◌==◌, slice_index, ℕ, Bool, true, false, not, ◌&&◌, ◌||◌, List, Option, Some, None, is_some, option_map, Result, Ok, refl, sym, ap, ◌∙◌, cond, inl, inr}
 use Rattle.fis.specs.H2d.{h2d_at}
 use Rattle.fis.specs.Types.{h2d_type}
 use Rattle.fis.specs.declared.h2d.RegH2d.{RegH2d}
@@ -14,16 +14,14 @@ use Rattle.trusted_cmds.specs.Commands.{is_queued}
 use Rattle.trusted_cmds.specs.BlockSid.{is_block_sid, block_asked, is_blocked}
 use Rattle.device_data.specs.Discovery.{has_owner}
 use Rattle.sp_cells.specs.Resets.{programmatic}
-use Rattle.history.specs.Events.{Wrote, Nothing, WasReset, BlockedSid, did}
+use Rattle.history.specs.Events.{WasReset, BlockedSid, did}
 use Rattle.history.specs.Facts.{Facts}
 use Rattle.history.specs.Decisions.{refuses, resets, while_failed, admitted, queued_transfer, unqueued_transfer, is_busy}
 use Rattle.history.specs.Tcg.{accepted, commanded, known, unqueued, command_read, blocks_sid, send_item, send}
 use Rattle.drive.specs.declared.transfer.Held.{Held}
 use Rattle.drive.specs.declared.transfer.Transfer.{Transfer}
 use Rattle.drive.specs.Transfer.{transfer_by, queued_command, held_command}
-use Rattle.drive.specs.Queue.{slot_at, held_at}
 use Rattle.drive.specs.Decision.{transfer_deed}
-use Rattle.drive.specs.State.{DriveState, kept_facts}
 use Rattle.audit.specs.declared.rules.rule.Rule.TheVariants.{NoCommand, SidKept}
 
 -- what is in a slot is held

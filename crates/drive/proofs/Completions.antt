@@ -18,7 +18,7 @@ use Rattle.drive.specs.Transfer.{transfer_by, by_op, queued_command, held_comman
 use Rattle.drive.specs.Queue.{slot_at, held_at, with_slot}
 use Rattle.drive.specs.declared.queue.Queue.{Queue}
 use Rattle.drive.specs.State.{DriveState, kept_facts, KeepsDrive, Agrees, AgreesInOrder}
-use Rattle.drive.specs.Answers.{fises_done, IsCompletion, IsCompletionByHeads, Finishes, IsFinished}
+use Rattle.drive.specs.Answers.{fises_done, IsCompletion, IsCompletionByHeads, IsFinished}
 use Rattle.drive.proofs.Keeping.{seen-is, completed-keeps}
 use Rattle.drive.proofs.Restarts.{in-order}
 

@@ -1,5 +1,5 @@
 -- What is kept stays what the past says, with one event more.
-use Rattle.std.proofs.Common.{◌≡◌, ℕ, ◌<◌, ◌==◌, ◌&&◌, ◌/◌, ◌*◌, ◌+◌, ◌-◌, Bool, true, false, List, [], ◌∷◌, length, take, drop, nat_le, nat_lt, Option, Some, None, Result, Ok, Err, is_some, option_map, refl, sym, subst, ap, ◌∙◌, cond, if◌then◌else◌, arith, slice_index}
+use Rattle.std.proofs.Common.{◌≡◌, ℕ, ◌<◌, ◌==◌, ◌&&◌, ◌/◌, ◌*◌, ◌+◌, ◌-◌, Bool, true, false, List, ◌∷◌, length, take, drop, nat_le, nat_lt, Option, Some, None, Result, Ok, Err, is_some, option_map, refl, sym, subst, ap, ◌∙◌, cond, if◌then◌else◌, arith, slice_index}
 use Rattle.std.proofs.Math.Path.{fun_ext}
 use Rattle.std.specs.Prelude.{unwrap_or}
 use Rattle.std.proofs.Math.ListN.{length-set}
@@ -9,7 +9,7 @@ use Rattle.device_data.specs.declared.log_page.Failure.{Failure}
 use Rattle.device_data.specs.declared.settings.Settings.{Settings}
 use Rattle.device_data.specs.Settings.{with_feature}
 use Rattle.trusted_cmds.specs.declared.feature.Feature.{Feature}
-use Rattle.shadow_mbr.specs.Stored.{sector_size, sector_at, zeros}
+use Rattle.shadow_mbr.specs.Stored.{sector_at, zeros}
 use Rattle.transactions.specs.Sights.{look_up, committed_sight}
 use Rattle.compacket.specs.Frames.{Frame}
 use Rattle.compacket.specs.declared.error.FrameError.{FrameError}
@@ -21,8 +21,8 @@ use Rattle.sessions.specs.Deeds.{Begun, erased_by}
 use Rattle.history.specs.Decisions.{completed}
 use Rattle.history.specs.Tcg.{sent, framed, to_session, to_manager, answers, is_manager}
 use Rattle.history.specs.Opening.{Origin}
-use Rattle.history.specs.Events.{HeldCommand, QueueDeed, Held as HeldDeed, Completed, CompletedWrite, QueueFailed, QueueMended, QueueEnded, Deed, Nothing, OfQueue, Wrote, Took, BlockedSid, Chose, WasReset, InSession, Event, did, or_else, latest, ignores}
-use Rattle.history.specs.Readers.{holding, held, in_force, failing, failure, writing, sector, settings_then}
+use Rattle.history.specs.Events.{HeldCommand, Held as HeldDeed, QueueFailed, QueueMended, QueueEnded, Deed, Nothing, OfQueue, Wrote, Took, BlockedSid, Chose, WasReset, InSession, Event, did, or_else, latest, ignores}
+use Rattle.history.specs.Readers.{holding, in_force, failing, failure, writing, settings_then}
 use Rattle.history.specs.Facts.{Facts, facts, session_named}
 use Rattle.history.specs.KeptStore.{ReadsStore}
 use Rattle.history.proofs.KeptStoreReads.{store_read_law}
@@ -30,7 +30,6 @@ use Rattle.tper.specs.Tper.{Tper, Keeps as KeepsTper, response_at, erased_by_dee
 use Rattle.tper.proofs.KeptBeside.{spares, kept_beside}
 use Rattle.drive.specs.declared.queue.Queue.{Queue}
 use Rattle.drive.specs.declared.transfer.Held.{Held}
-use Rattle.drive.specs.declared.transfer.Transfer.{Transfer}
 use Rattle.drive.specs.Transfer.{transfer_by, queued_command, held_command, sector_then}
 use Rattle.drive.specs.Decision.{transfer_deed}
 use Rattle.drive.specs.Queue.{slot_at, held_at, with_slot, failed_queue, mended_queue, empty_queue}

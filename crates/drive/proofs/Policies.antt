@@ -1,5 +1,5 @@
 -- What the policy says of a transfer, and what the history does with it then.
-use Rattle.std.proofs.Common.{◌≡◌, ℕ, ◌+◌, ◌-◌, ◌<◌, ◌≤◌, Bool, true, false, List, Option, Some, None, Result, Ok, Err, IfOk, IfSome, refl, sym, subst, ap, ◌∙◌, if◌then◌else◌, arith}
+use Rattle.std.proofs.Common.{◌≡◌, ℕ, ◌+◌, ◌-◌, ◌<◌, ◌≤◌, Bool, true, false, Option, Some, None, Result, Ok, Err, IfOk, IfSome, refl, sym, subst, ap, if◌then◌else◌, arith}
 use Rattle.std.proofs.lemmas.Bool.{le-leb, ltb-true}
 use Rattle.fis.specs.declared.h2d.RegH2d.{RegH2d}
 use Rattle.locking.specs.declared.ranges.Verdict.{Verdict}
@@ -11,8 +11,7 @@ use Rattle.locking.specs.Verdict.{verdict_of, IsVerdict}
 use Rattle.locking.proofs.Verdicts.{verdict_is, shadow_has_sector}
 use Rattle.sp_cells.specs.Flat.{LookUp}
 use Rattle.trusted_cmds.specs.declared.command.Command.{Command}
-use Rattle.device_data.specs.ErrorLog.{failure_by}
-use Rattle.history.specs.Events.{Deed, OfQueue, QueueFailed, Event, did}
+use Rattle.history.specs.Events.{Deed, did}
 use Rattle.history.specs.Facts.{Facts}
 use Rattle.history.specs.Decisions.{aborted, not_found, fails, fails_queue, holds, on_drive, verdict_on, queued_by, unqueued_by, queued_transfer, unqueued_transfer}
 use Rattle.drive.specs.declared.decision.Refusal.{Refusal}

@@ -1,5 +1,5 @@
 -- What a reset leaves, and what a drive starts from.
-use Rattle.std.proofs.Common.{◌≡◌, ℕ, List, [], ◌∷◌, ◌++◌, length, reverse, Option, None, refl, sym, subst, ap, ◌∙◌, option_map}
+use Rattle.std.proofs.Common.{◌≡◌, ℕ, List, [], ◌∷◌, ◌++◌, length, reverse, None, sym, subst, ap, ◌∙◌, option_map}
 use Rattle.std.proofs.lemmas.List.{reverse-append}
 use Rattle.shadow_mbr.specs.Stored.{StoredSectors, sector_at, zeros}
 use Rattle.history.specs.Opening.{Origin}

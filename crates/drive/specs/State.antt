@@ -1,7 +1,6 @@
 -- What a drive keeps, and when that is what a list of acts says.
-use Rattle.std.specs.Prelude.{◌≡◌, ℕ, List, ◌∷◌, length, reverse, slice_index}
+use Rattle.std.specs.Prelude.{◌≡◌, ℕ, List, length, reverse, slice_index}
 use Rattle.fis.specs.Tags.{slot_count}
-use Rattle.fis.specs.declared.h2d.RegH2d.{RegH2d}
 use Rattle.device_data.specs.declared.settings.Settings.{Settings}
 use Rattle.shadow_mbr.specs.Stored.{StoredSectors, sector_at}
 use Rattle.transactions.specs.Sights.{look_up, committed_sight}

@@ -1,6 +1,6 @@
 -- Transfers: what moves, and what the media hold then (ACS-3, READ FPDMA QUEUED and WRITE FPDMA
 -- QUEUED, READ DMA EXT and WRITE DMA EXT).
-use Rattle.std.specs.Prelude.{ℕ, ◌≡◌, ◌+◌, ◌*◌, Bool, true, false, nat_le, List, [], if◌then◌else◌}
+use Rattle.std.specs.Prelude.{ℕ, ◌≡◌, ◌+◌, ◌*◌, Bool, true, nat_le, List, [], if◌then◌else◌}
 use Rattle.locking.specs.declared.range.Op.{Op}
 use Rattle.locking.specs.declared.range.Op.TheVariants.{Read, Write}
 use Rattle.locking.specs.declared.ranges.Verdict.{Verdict}

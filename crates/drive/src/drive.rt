@@ -7,6 +7,7 @@ ghost use Rattle.locking.specs.Ranges.{ranges_in};
 ghost use Rattle.transactions.specs.Sights.{look_up};
 
 use crate::answer::{Accepted, Completed};
+use crate::boxes::{new_media, new_queue, tper_over};
 use crate::decision::{ABORTED, Decision, Objection, Refusal, permission, policy};
 use crate::error::DriveError;
 use crate::heads::heads;
@@ -47,9 +48,9 @@ pub struct Drive {
     sectors: u64,
     profile: Profile,
     ranges: Ranges,
-    pub(crate) tper: Tper,
-    pub(crate) queue: Queue,
-    pub(crate) media: Media,
+    pub(crate) tper: Box<Tper>,
+    pub(crate) queue: Box<Queue>,
+    pub(crate) media: Box<Media>,
     pub(crate) settings: Settings,
     /// A vector for the bytes of the next read, or of the next response.
     spare: Vec<u8>,
@@ -64,18 +65,18 @@ impl Model for Drive {
     ghost Value = { DriveState };
 
     ghost view = { λ a. record {
-      tper = a.tper;
-      queue = a.queue;
-      media = a.media;
+      tper = a.tper.value;
+      queue = a.queue.value;
+      media = a.media.value;
       settings = a.settings;
     } };
 
     ghost invariant = { λ a. (a.sectors ≤ 2 ^ 48)
-        × (a.tper.store.config.sectors ≡ a.sectors)
-        × (a.ranges ≡ ranges_of a.tper)
-        × (a.media.sectors ≡ a.sectors)
-        × AllFit a.sectors a.tper.store.config.mbr_sectors a.queue
-        × (a.tper.store.config.profile ≡ a.profile) };
+        × (a.tper.value.store.config.sectors ≡ a.sectors)
+        × (a.ranges ≡ ranges_of a.tper.value)
+        × (a.media.value.sectors ≡ a.sectors)
+        × AllFit a.sectors a.tper.value.store.config.mbr_sectors a.queue.value
+        × (a.tper.value.store.config.profile ≡ a.profile) };
 }
 
 impl Drive {
@@ -168,16 +169,18 @@ impl Drive {
         let config = tables.config();
         let sectors = config.sectors();
         let profile = config.profile();
-        let tper = Tper::new(alloc, tables);
+        let tper = tper_over(alloc, tables)?;
         let ranges = Ranges::of(alloc, &tper.in_force())?;
+        let queue = new_queue(alloc)?;
+        let media = new_media(alloc, sectors)?;
         Ok(Drive {
             alloc,
             sectors,
             profile,
             ranges,
             tper,
-            queue: Queue::new(),
-            media: Media::new(alloc, sectors),
+            queue,
+            media,
             settings: Settings::first(),
             spare: Vec::new(alloc),
         })
@@ -784,7 +787,7 @@ impl Drive {
             → KeepsDrive self.new o (did (WasReset kind) ∷ past) }
     {
         self.tper.reset(kind);
-        self.queue = Queue::new();
+        *self.queue = Queue::new();
         self.settings = self.settings.after_reset(kind);
         self.ranges.refresh(&self.tper.in_force());
     }

@@ -3,6 +3,7 @@
 #![tactic(auto)]
 
 mod answer;
+mod boxes;
 mod deciding;
 mod decision;
 mod drive;

@@ -31,6 +31,6 @@ impl Drive {
     fn end_queue(&mut self)
         ensures { self.new ≡ record self.old { queue = empty_queue } }
     {
-        self.queue = Queue::new();
+        *self.queue = Queue::new();
     }
 }

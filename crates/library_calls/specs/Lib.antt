@@ -1,6 +1,7 @@
 pub mod Carries
 pub mod Copies
 pub mod Counts
+pub mod Denied
 pub mod Refusals
 pub mod Spelled
 pub mod Told

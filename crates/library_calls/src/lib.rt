@@ -2,5 +2,6 @@
 #![tactic(auto)]
 
 pub mod byte_calls;
+pub mod denied;
 pub mod hba_calls;
 pub mod port_calls;

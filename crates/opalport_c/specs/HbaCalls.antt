@@ -1,5 +1,5 @@
 -- What a call of a controller by its handle does: nothing where the handle has none; else what the call does with it.
-use Rattle.std.specs.Prelude.{◌≡◌, ◌≢◌, ℕ, List, [], ◌∷◌, map, Option, Some, None, Ok}
+use Rattle.std.specs.Prelude.{◌≡◌, ◌≢◌, ℕ, List, [], map, Option, Some, None, Ok}
 use Rattle.library_calls.specs.declared.byte_calls.count.Count.{Count}
 use Rattle.library_calls.specs.declared.byte_calls.error.CallError.{CallError}
 use Rattle.library_calls.specs.declared.byte_calls.error.CallError.TheVariants.{NotOpen, OtherKind, InUse}

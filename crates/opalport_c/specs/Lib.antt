@@ -2,13 +2,16 @@ pub mod About
 pub mod Answers
 pub mod Asked
 pub mod Calls
+pub mod DenialCalls
 pub mod Denials
 pub mod Desks
 pub mod Failures
 pub mod HbaCalls
 pub mod Marks
 pub mod Media
+pub mod Numbers
 pub mod Owned
 pub mod PortCalls
 pub mod Refused
+pub mod Remedies
 pub mod Version

@@ -1,5 +1,5 @@
 -- What a call of a port by its handle does: nothing where the handle has no port; else what the call does with the port.
-use Rattle.std.specs.Prelude.{◌≡◌, ◌≢◌, ℕ, List, [], ◌∷◌, map, Option, Some, None, Ok}
+use Rattle.std.specs.Prelude.{◌≡◌, ◌≢◌, ℕ, List, [], map, Option, Some, None, Ok}
 use Rattle.library_calls.specs.declared.byte_calls.count.Count.{Count}
 use Rattle.library_calls.specs.declared.byte_calls.error.CallError.{CallError}
 use Rattle.library_calls.specs.declared.byte_calls.error.CallError.TheVariants.{NotOpen, OtherKind, InUse}

@@ -10,7 +10,8 @@
 #![no_std]
 #![warn(missing_docs)]
 
-/// What a caller holds in place of an object: `opal_handle`. All zeros is one with nothing.
+/// An object, as the functions below take it: `opal_raw_object`. All zeros is none. It may be moved, and not copied; the numbers
+/// that `opalport.h` has in place of objects, so that copies are told, are made over these.
 #[repr(C)]
 #[derive(Debug)]
 pub struct Handle {
@@ -182,6 +183,36 @@ pub struct Worked {
     pub denied: bool,
 }
 
+/// A denial in numbers: `opal_denied`.
+#[repr(C)]
+#[derive(Clone, Copy, Debug)]
+pub struct Denied {
+    /// 0, or why the call was refused.
+    pub code: u32,
+    /// The client; at a controller the tag.
+    pub client: u32,
+    /// What denied the act; 0 where there is no denial.
+    pub reason: u8,
+    /// 1 the Admin SP, 2 the Locking SP.
+    pub sp: u8,
+    /// The range that denied.
+    pub range: u8,
+    /// Whether a method names columns.
+    pub has_column: bool,
+    /// How many sectors.
+    pub count: u32,
+    /// The number of the act, or of the step.
+    pub step: u64,
+    /// The first sector.
+    pub lba: u64,
+    /// The UID of the object, or of the authority.
+    pub object: u64,
+    /// The UID of the method.
+    pub method: u64,
+    /// The first column that is denied.
+    pub column: u64,
+}
+
 /// What a frame carries, and for whom: `opal_carried`.
 #[repr(C)]
 #[derive(Clone, Copy, Debug)]
@@ -229,6 +260,8 @@ extern "C" {
     pub fn opal_raw_about(handle: *mut Handle) -> About;
     /// `opal_media` of the header.
     pub fn opal_raw_media(handle: *mut Handle, lba: u64, into: *mut u8, length: usize) -> Count;
+    /// `opal_remedy` of the header.
+    pub fn opal_raw_remedy(handle: *mut Handle, place: usize, into: *mut u8, length: usize) -> Count;
     /// `opal_drive_new` of the header.
     pub fn opal_raw_drive_new(
         handle: *mut Handle,
@@ -268,6 +301,8 @@ extern "C" {
     pub fn opal_raw_drive_data(handle: *mut Handle, into: *mut u8, length: usize) -> Count;
     /// `opal_drive_denial` of the header.
     pub fn opal_raw_drive_denial(handle: *mut Handle, client: u32, into: *mut u8, length: usize) -> Count;
+    /// `opal_drive_denied` of the header.
+    pub fn opal_raw_drive_denied(handle: *mut Handle, client: u32) -> Denied;
     /// `opal_port_new` of the header.
     pub fn opal_raw_port_new(
         handle: *mut Handle,
@@ -314,6 +349,8 @@ extern "C" {
     pub fn opal_raw_port_shown(handle: *mut Handle) -> Shown;
     /// `opal_port_denial` of the header.
     pub fn opal_raw_port_denial(handle: *mut Handle, place: usize, into: *mut u8, length: usize) -> Count;
+    /// `opal_port_denied` of the header.
+    pub fn opal_raw_port_denied(handle: *mut Handle, place: usize) -> Denied;
     /// `opal_hba_new` of the header.
     pub fn opal_raw_hba_new(
         handle: *mut Handle,
@@ -341,6 +378,8 @@ extern "C" {
     pub fn opal_raw_hba_turn(handle: *mut Handle, choice: usize, base: u32, memory: *mut u8, length: usize) -> Worked;
     /// `opal_hba_denial` of the header.
     pub fn opal_raw_hba_denial(handle: *mut Handle, into: *mut u8, length: usize) -> Count;
+    /// `opal_hba_denied` of the header.
+    pub fn opal_raw_hba_denied(handle: *mut Handle) -> Denied;
     /// `opal_tokens_text` of the header.
     pub fn opal_raw_tokens(by_name: bool, bytes: *const u8, bytes_length: usize, into: *mut u8, length: usize) -> Count;
     /// `opal_decoded_text` of the header.

@@ -1,6 +1,6 @@
 //! An AHCI controller with one port, and the drive behind it.
 
-use crate::{raw, text, written, About, Config, Error, Object};
+use crate::{denied, raw, text, written, About, Config, Denied, Error, Object};
 
 /// The work of a controller's turn.
 #[derive(Clone, Copy, Debug, PartialEq, Eq)]
@@ -114,6 +114,17 @@ impl Hba {
     pub fn denial(&mut self) -> Result<String, Error> {
         // SAFETY: the handle is this controller's own, and the buffer is there for the call.
         written(200, |into, room| unsafe { raw::opal_raw_hba_denial(&mut self.object.handle, into, room) }).map(text)
+    }
+
+    /// What would lift what denied the command of the last turn, as [`crate::Drive::remedy`].
+    pub fn remedy(&mut self) -> Result<String, Error> {
+        self.object.remedy(0)
+    }
+
+    /// What denied the command of the last turn, in numbers.
+    pub fn denied(&mut self) -> Result<Option<Denied>, Error> {
+        // SAFETY: the handle is this controller's own.
+        denied::told(unsafe { raw::opal_raw_hba_denied(&mut self.object.handle) })
     }
 
     /// What the drive is made with.

@@ -25,11 +25,13 @@
 
 #![warn(missing_docs)]
 
+mod denied;
 mod hba;
 mod port;
 
 use opalport_sys as raw;
 
+pub use denied::{Attempt, Denied, Reason, Sp};
 pub use hba::{Hba, Went, Work, Worked};
 pub use port::{EngineStep, Port, Request, Shown, Taken};
 
@@ -95,6 +97,8 @@ pub enum Error {
     Shared,
     /// A pointer to a struct is not aligned.
     Misaligned,
+    /// Another call is at work on the object.
+    Busy,
     /// The slot is not free.
     PortSlotBusy,
     /// The slot has no prepared command.
@@ -151,6 +155,7 @@ impl Error {
             25 => Error::VersionDiffers,
             26 => Error::Shared,
             27 => Error::Misaligned,
+            28 => Error::Busy,
             101 => Error::PortSlotBusy,
             102 => Error::PortNotPrepared,
             103 => Error::PortQueue,
@@ -200,6 +205,7 @@ impl fmt::Display for Error {
             Error::VersionDiffers => "the crate and the library are of versions that do not fit",
             Error::Shared => "a buffer that is written has a byte in common with another one",
             Error::Misaligned => "a pointer to a struct is not aligned",
+            Error::Busy => "another call is at work on the object",
             Error::PortSlotBusy => "the slot is not free",
             Error::PortNotPrepared => "the slot has no prepared command",
             Error::PortQueue => "queued and other commands would mix",
@@ -559,6 +565,11 @@ impl Object {
         Ok(About { sectors: told.sectors, shadow: told.shadow, field: told.profile == 1 })
     }
 
+    fn remedy(&mut self, place: usize) -> Result<String, Error> {
+        // SAFETY: the handle is this object's own, and the buffer is there for the call.
+        written(400, |into, room| unsafe { raw::opal_raw_remedy(&mut self.handle, place, into, room) }).map(text)
+    }
+
     fn media(&mut self, lba: u64) -> Result<Vec<u8>, Error> {
         // SAFETY: the handle is this object's own, and the buffer is there for the call.
         written(512, |into, room| unsafe { raw::opal_raw_media(&mut self.handle, lba, into, room) })
@@ -695,6 +706,18 @@ impl Drive {
     pub fn denial(&mut self, client: u32) -> Result<String, Error> {
         // SAFETY: the handle is this drive's own, and the buffer is there for the call.
         written(200, |into, room| unsafe { raw::opal_raw_drive_denial(&mut self.object.handle, client, into, room) }).map(text)
+    }
+
+    /// What would lift what denied the last command, by the rows in force, as
+    /// `lifted by: Set of Locking_Range1 ReadLocked = 0 by Admins (ACE_Locking_Range1_Set_RdLocked)`; empty where nothing did.
+    pub fn remedy(&mut self) -> Result<String, Error> {
+        self.object.remedy(0)
+    }
+
+    /// What denied the last command, in numbers; the client is yours to say.
+    pub fn denied(&mut self, client: u32) -> Result<Option<Denied>, Error> {
+        // SAFETY: the handle is this drive's own.
+        denied::told(unsafe { raw::opal_raw_drive_denied(&mut self.object.handle, client) })
     }
 }
 

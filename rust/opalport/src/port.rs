@@ -1,6 +1,6 @@
 //! One AHCI port with 32 command slots, the drive behind it, and the clients that share it.
 
-use crate::{text, written, About, Config, Error, Object};
+use crate::{denied, text, written, About, Config, Denied, Error, Object};
 use opalport_sys as raw;
 
 /// What a client asks of a port. Addresses and counts are of blocks of 512 bytes.
@@ -224,6 +224,27 @@ impl Port {
     pub fn denial(&mut self, place: usize) -> Result<String, Error> {
         // SAFETY: as in `issue`, and the buffer is there for the call.
         written(200, |into, room| unsafe { raw::opal_raw_port_denial(&mut self.object.handle, place, into, room) }).map(text)
+    }
+
+    /// What would lift the denial at a place, by the rows in force now, as [`crate::Drive::remedy`].
+    pub fn remedy(&mut self, place: usize) -> Result<String, Error> {
+        self.object.remedy(place)
+    }
+
+    /// The denial at a place, 0 the oldest, in numbers; none where it is none of the 64 latest.
+    pub fn denied(&mut self, place: usize) -> Result<Option<Denied>, Error> {
+        // SAFETY: as in `issue`.
+        denied::told(unsafe { raw::opal_raw_port_denied(&mut self.object.handle, place) })
+    }
+
+    /// The denials from a place on, the oldest first, as many as the port keeps; and the place to ask from the next time.
+    pub fn denials_since(&mut self, place: usize) -> Result<(Vec<Denied>, usize), Error> {
+        let now = self.shown()?.denials;
+        let mut list = Vec::new();
+        for it in place.max(now.saturating_sub(64))..now {
+            list.extend(self.denied(it)?);
+        }
+        Ok((list, now))
     }
 }
 

@@ -1,8 +1,8 @@
 //! A drive whose range 1 is locked, by the wrapper. The values are worked from ACS-3 and TCG Core 2.01.
 
 use opalport::{
-    command_fis, decoded_text, frame, opened, receive_fis, send_fis, tokens_text, Answer, Command, Config, Drive, Error,
-    Field, Kind, Range,
+    command_fis, decoded_text, frame, opened, receive_fis, send_fis, tokens_text, Answer, Attempt, Command, Config, Denied,
+    Drive, Error, Field, Kind, Range, Reason, Sp,
 };
 
 const LOCKED: Range = Range {
@@ -45,6 +45,21 @@ fn a_locked_read_is_denied_with_its_reason() {
     let answer = give(&mut drive, Command::ReadDma { lba: 95, count: 6 }, &[]);
     assert_eq!((answer.status, answer.error, answer.denied), (0x51, 0x04, true));
     assert_eq!(drive.denial(7).unwrap(), "1 7 deny read 95+6 range 1 ReadLocked");
+    let reason = Reason::ReadLocked { range: 1, lba: 95, count: 6 };
+    assert_eq!(drive.denied(7), Ok(Some(Denied { step: 1, client: 7, reason })));
+    assert!(drive.remedy().unwrap().starts_with("lifted by: Set of Locking_Range1 ReadLocked = 0 by Admins "));
+    give(&mut drive, Command::Flush, &[]);
+    assert_eq!(drive.denied(7), Ok(None));
+}
+
+#[test]
+fn a_wrong_pin_is_told_in_numbers() {
+    let mut drive = locked();
+    let mut block = frame(0x1000, 0, 0, &bytes(&START.replace("4f50414c4d534944", "4f50414c4d534945"))).unwrap();
+    block.resize(512, 0);
+    drive.accept(&send_fis(1, 0x1000, 1).unwrap(), &block).unwrap();
+    let reason = Reason::Attempt { sp: Sp::Locking, authority: 0x0000_0009_0001_0001, failure: Attempt::WrongPin };
+    assert_eq!(drive.denied(0), Ok(Some(Denied { step: 1, client: 0, reason })));
 }
 
 #[test]

@@ -1,5 +1,5 @@
 -- A loop that writes what stands for each item of a list over the front of another list.
-use Rattle.std.proofs.Common.{◌≡◌, ◌<◌, ◌≤◌, ◌+◌, ℕ, zero, suc, List, [], ◌∷◌, ◌++◌, length, map, take, drop, get_or, slice_set, ap, arith}
+use Rattle.std.proofs.Common.{◌≡◌, ◌<◌, ◌≤◌, ℕ, zero, suc, List, [], ◌∷◌, ◌++◌, length, map, take, drop, get_or, slice_set, ap, arith}
 
 pub laid_on : {A B : Type 0} (f : A → B) (xs : List A) (old : List B) (i : ℕ) (x : A) → i < length xs → length xs ≤ length old
     → x ≡ get_or xs i x → slice_set (map f (take i xs) ++ drop i old) i (f x) ≡ map f (take (suc i) xs) ++ drop (suc i) old

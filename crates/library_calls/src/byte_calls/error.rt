@@ -61,6 +61,8 @@ pub enum CallError {
     Shared,
     /// A pointer to a struct is not aligned. The header looks for it.
     Misaligned,
+    /// Another call is at work on the object of the handle.
+    Busy,
 }
 
 impl CallError {
@@ -95,6 +97,7 @@ impl CallError {
             CallError::VersionDiffers => 25,
             CallError::Shared => 26,
             CallError::Misaligned => 27,
+            CallError::Busy => 28,
         }
     }
 }

@@ -1,6 +1,7 @@
 //! A controller, with what denied the command of its last turn.
 
 use crate::byte_calls::{Count, DONE, copy_out, copy_text};
+use crate::denied::Denied;
 use crate::hba_calls::over::turn_over;
 use crate::hba_calls::worked::{Worked, worked_tag};
 use audit::{AuditLine, line_bytes};
@@ -19,6 +20,7 @@ impl HbaDesk {
     ghost use Rattle.std.specs.Prelude.{◌≡◌, None};
     ghost use Rattle.library_calls.specs.Copies.{IsWrittenOut};
     ghost use Rattle.library_calls.specs.Counts.{given_count};
+    ghost use Rattle.library_calls.specs.Denied.{line_numbers};
     ghost use Rattle.fis.specs.Bytes.{bit};
     ghost use Rattle.hba.specs.Registers.{word_at, line};
     ghost use Rattle.library_calls.specs.HbaCallsDesk.{WritesHba, CyclesHba, TurnsDesk, denied_line, denied_after, denied_text};
@@ -86,6 +88,13 @@ impl HbaDesk {
         let told = Worked::told(&outcome);
         self.keep(outcome);
         told
+    }
+
+    /// What denied the command of the last turn, as numbers.
+    pub fn denied(&self) -> Denied
+        ensures { result ≡ line_numbers self.now.denied }
+    {
+        Denied::of(self.denied.as_ref())
     }
 
     /// Copies the line of the audit log that tells what denied the command of the last turn, into a buffer: no bytes, where

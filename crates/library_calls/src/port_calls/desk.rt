@@ -4,6 +4,7 @@ ghost use Rattle.std.specs.Prelude.{◌≡◌};
 ghost use Rattle.library_calls.specs.Desk.{kind_asked};
 
 use crate::byte_calls::{CallError, Count, copy_out, copy_text};
+use crate::denied::Denied;
 use crate::port_calls::asked::{Asked, request_asked};
 use crate::port_calls::ready::{ReadyStep, list_out};
 use crate::port_calls::refusals::{code_of, told, told_turn};
@@ -42,6 +43,7 @@ impl PortDesk {
     ghost use Rattle.port_history.specs.declared.step.Step.{Step};
     ghost use Rattle.port_history.specs.declared.step.Step.TheVariants as steps;
     ghost use Rattle.port_history.specs.Requests.{no_bytes};
+    ghost use Rattle.library_calls.specs.Denied.{line_numbers};
     ghost use Rattle.library_calls.specs.Desk.{PutsBy, StepsUnder, TakesStep, ResetsBy, TakesUnder, TakesTurn, ListsReady};
     ghost use Rattle.library_calls.specs.Shown.{shown_numbers, logged_text};
     ghost use Rattle.library_calls.specs.PortCallsTold.{answer_bytes};
@@ -170,6 +172,13 @@ impl PortDesk {
         ensures { result ≡ shown_numbers self.now.port }
     {
         Shown::of(&self.port)
+    }
+
+    /// The denial at a place of the audit log, 0 the oldest, as numbers, if it is one of the 64 latest: else none.
+    pub fn denied(&self, place: usize) -> Denied
+        ensures { result ≡ line_numbers (line_kept self.now.port place) }
+    {
+        Denied::of(self.port.denial(place as u64))
     }
 
     /// Copies the line of the audit log at a place, 0 the oldest, into a buffer, if it is one of the 64 latest: else no

@@ -1,5 +1,4 @@
-use Rattle.std.proofs.Common.{◌≡◌, ◌∙◌, ◌++◌, ℕ, List, append_assoc, append-nil, ap, sym, arith, take, drop, length, ◌/◌, ◌+◌, ◌-◌, ◌*◌}
-use Rattle.shadow_mbr.specs.Stored.{heads_of}
+use Rattle.std.proofs.Common.{◌∙◌, ◌++◌, ℕ, List, append_assoc, append-nil, ap, sym, arith, length, ◌/◌}
 use Rattle.drive.proofs.SectorHeads.{next_head, all_heads}
 use Rattle.drive.proofs.heads.heads.Goals as goal
 

@@ -1,5 +1,5 @@
 use Rattle.drive.proofs.Brought.{moved-size}
-use Rattle.std.proofs.Common.{◌≡◌, ◌<◌, ◌∙◌, ap, sym, subst, refl, ℕ, ◌∷◌}
+use Rattle.std.proofs.Common.{◌∙◌, subst, ◌∷◌}
 use Rattle.trusted_cmds.specs.declared.block.SidBlock.{SidBlock}
 use Rattle.history.specs.Events.{BlockedSid, did}
 use Rattle.history.specs.Facts.{facts}

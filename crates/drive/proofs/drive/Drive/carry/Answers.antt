@@ -1,6 +1,4 @@
-use Rattle.std.proofs.Common.{◌≡◌, ◌==◌, ◌∙◌, subst, refl, sym, ap, true, false, slice_index, rules, arith}
-use Rattle.std.proofs.lemmas.Grind.{common_steps}
-use Rattle.std.proofs.lemmas.Bool.{ne_eqb}
+use Rattle.std.proofs.Common.{◌≡◌, ◌∙◌, subst, sym, ap, slice_index}
 use Rattle.fis.specs.H2d.{h2d_at}
 use Rattle.fis.specs.Types.{h2d_type}
 use Rattle.trusted_cmds.specs.Profiles.{payload_length_in}

@@ -1,4 +1,4 @@
-use Rattle.std.proofs.Common.{◌≡◌, ◌∙◌, true, false, is_some, ap, sym, rules, arith}
+use Rattle.std.proofs.Common.{◌≡◌, ◌∙◌, true, is_some, ap, sym, rules, arith}
 use Rattle.std.proofs.lemmas.Grind.{common_steps}
 use Rattle.drive.specs.State.{kept_facts}
 use Rattle.drive.proofs.Commands.{commanded-failed, commanded-known}

@@ -3,4 +3,4 @@ use Rattle.drive.proofs.drive.Drive.fail_queue.Goals as goal
 pub invariant_of-self : goal.invariant_of-self
 invariant_of-self c =
     let i = c.self.invariant in
-    (i.0, i.1, i.2, i.3, c.fail.ensures.fits c.self.inside.sectors c.self.inside.tper.store.config.mbr_sectors, i.5)
+    (i.0, i.1, i.2, i.3, c.fail.ensures.fits c.self.inside.sectors c.self.inside.tper.value.store.config.mbr_sectors, i.5)

@@ -1,4 +1,4 @@
-use Rattle.std.proofs.Common.{◌≡◌, ◌∙◌, ℕ, sym, ap, Some, Option}
+use Rattle.std.proofs.Common.{◌≡◌, ◌∙◌, sym, Some}
 use Rattle.drive.specs.declared.transfer.Held.{Held}
 use Rattle.drive.specs.Queue.{slot_at}
 use Rattle.drive.proofs.Completions.{finished-some}

@@ -1,4 +1,4 @@
-use Rattle.std.proofs.Common.{◌≡◌, ◌∙◌, ℕ, sym, ap, Some, Option}
+use Rattle.std.proofs.Common.{◌≡◌, ◌∙◌, ℕ, sym, ap, Some}
 use Rattle.std.proofs.Common.{replicate}
 use Rattle.shadow_mbr.specs.Stored.{heads, sector_at}
 use Rattle.history.specs.Answers.{expected}

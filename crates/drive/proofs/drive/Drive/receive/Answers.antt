@@ -1,4 +1,5 @@
 use Rattle.std.proofs.Common.{sym, subst, refl}
+use Rattle.tper.specs.Tper.{Tper, Keeps}
 use Rattle.drive.specs.State.{DriveState, KeepsDrive}
 use Rattle.drive.proofs.Acting.{receive-keeps}
 use Rattle.drive.proofs.drive.Drive.receive.Goals as goal
@@ -6,7 +7,8 @@ use Rattle.drive.proofs.drive.Drive.receive.Goals as goal
 pub returns-clause-kept : goal.returns-clause-kept
 returns-clause-kept c = λ o past blocks size k.
     let inside = c.self.inside in
-    let old : DriveState = record { tper = inside.tper; queue = inside.queue; media = inside.media; settings = inside.settings } in
-    let new : DriveState = record { tper = c.receive.new.self; queue = inside.queue; media = inside.media; settings = inside.settings } in
+    let old : DriveState = record { tper = inside.tper.value; queue = inside.queue.value; media = inside.media.value; settings = inside.settings } in
+    let new : DriveState = record { tper = c.receive.new.self; queue = inside.queue.value; media = inside.media.value; settings = inside.settings } in
     let kept : KeepsDrive old o past = subst (λ (x : DriveState). KeepsDrive x o past) (sym c.self.view_is) k in
-    receive-keeps old new o past c.args.com_id blocks (c.in_ok-bytes.ensures.kept o past blocks size kept.tper) refl refl refl kept
+    let lent : Keeps c.deref_mut.result.now o past = subst (λ (t : Tper). Keeps t o past) (sym c.deref_mut.ensures.value) kept.tper in
+    receive-keeps old new o past c.args.com_id blocks (c.in_ok-bytes.ensures.kept o past blocks size lent) refl refl refl kept

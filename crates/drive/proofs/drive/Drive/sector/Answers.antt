@@ -1,4 +1,4 @@
-use Rattle.std.proofs.Common.{rules, ◌∙◌}
+use Rattle.std.proofs.Common.{rules}
 use Rattle.drive.proofs.drive.Drive.sector.Goals as goal
 
 pub returns-then-lba-sectors-clause-told : goal.returns-then-lba-sectors-clause-told

@@ -1,4 +1,4 @@
-use Rattle.std.proofs.Common.{◌+◌, ℕ, ◌++◌, map, take, drop, slice_set, add-one, sym, ap, ◌∙◌}
+use Rattle.std.proofs.Common.{ℕ, ◌++◌, map, take, drop, slice_set, add-one, sym, ap, ◌∙◌}
 use Rattle.library_calls.specs.Listed.{ready_numbers}
 use Rattle.library_calls.proofs.port_calls.Laid.{laid_on}
 use Rattle.library_calls.proofs.port_calls.ready.list_out.Goals as goal
