@@ -80,13 +80,13 @@ typedef enum opal_code {
 
     /* What of a configuration no drive has: the first, in the order RANGE_TWICE, PROFILE, SECTORS, SHADOW and on. */
     OPAL_SECTORS = 16,         /* a drive has 1 to 2^48 sectors */
-    OPAL_SHADOW = 17,          /* a shadow MBR has at most 262,144 sectors, and at most all of the drive */
+    OPAL_SHADOW = 17,          /* a shadow MBR has at most 262,144 sectors, with the profile opal just so many, and at most all of the drive */
     OPAL_MSID = 18,            /* an MSID has 1 to 32 bytes */
     OPAL_PROFILE = 19,         /* there is no such profile */
-    OPAL_SERIAL = 20,          /* a serial number has at most 20 characters of printable ASCII, and only with the profile field */
-    OPAL_MODEL = 21,           /* a model number has at most 40 characters of printable ASCII, and only with the profile field */
-    OPAL_PSID = 22,            /* a PSID has at most 32 bytes, and only with the profile field */
-    OPAL_DATASTORE = 23,       /* a DataStore has at most 16,777,216 bytes, and only with the profile field */
+    OPAL_SERIAL = 20,          /* a serial number has at most 20 characters of printable ASCII, and only with the profile field or opal */
+    OPAL_MODEL = 21,           /* a model number has at most 40 characters of printable ASCII, and only with the profile field or opal */
+    OPAL_PSID = 22,            /* a PSID has at most 32 bytes, and only with the profile field or opal */
+    OPAL_DATASTORE = 23,       /* a DataStore has at most 16,777,216 bytes, with the profile opal at least 10,485,760, and base has none */
     OPAL_RANGE_TWICE = 24,     /* two rows are of one range */
     OPAL_VERSION_DIFFERS = 25, /* header and library are of versions that do not fit, or a configuration lacks its size */
 
@@ -129,12 +129,13 @@ typedef enum opal_reset { OPAL_POWER_CYCLE = 0, OPAL_HARDWARE_RESET = 1 } opal_r
 /* A profile of a drive. */
 typedef enum opal_profile {
     OPAL_BASE = 0, /* what the standards ask for */
-    OPAL_FIELD = 1 /* and what unmodified drivers ask for */
+    OPAL_FIELD = 1, /* and what unmodified drivers ask for */
+    OPAL_OPAL = 2   /* and the sizes that Opal SSC 2.01 wants */
 } opal_profile;
 
 /* Security protocols (SPC-4, SECURITY PROTOCOL IN; TCG Core 2.01, 3.3), and the ComIDs of this drive. */
 enum opal_protocol {
-    OPAL_PROTOCOL_LIST = 0x00, /* what protocols there are: of the profile field */
+    OPAL_PROTOCOL_LIST = 0x00, /* what protocols there are: of the profiles field and opal */
     OPAL_PROTOCOL_TCG = 0x01,  /* discovery, sessions and methods */
     OPAL_PROTOCOL_TPER = 0x02  /* TPER_RESET, Block SID */
 };
@@ -142,7 +143,7 @@ enum opal_protocol {
 enum opal_com_id {
     OPAL_COM_ID_DISCOVERY = 0x0001,  /* by OPAL_PROTOCOL_TCG: Level 0 discovery */
     OPAL_COM_ID_TPER_RESET = 0x0004, /* by OPAL_PROTOCOL_TPER */
-    OPAL_COM_ID_BLOCK_SID = 0x0005,  /* by OPAL_PROTOCOL_TPER: of the profile field */
+    OPAL_COM_ID_BLOCK_SID = 0x0005,  /* by OPAL_PROTOCOL_TPER: of the profiles field and opal */
     OPAL_COM_ID = 0x1000             /* by OPAL_PROTOCOL_TCG: the first ComID of sessions; the drive has 4 */
 };
 
@@ -178,25 +179,30 @@ typedef struct opal_range {
 typedef struct opal_config {
     size_t size;             /* sizeof(opal_config) */
     uint64_t sectors;        /* 1 to 2^48, of 512 bytes; 0 is refused */
-    uint64_t shadow;         /* how many of them the shadow MBR can have: at most 262,144, and at most all; 0 is none */
+    uint64_t shadow;         /* how many of them the shadow MBR can have: at most 262,144, and at most all; 0 is none. With opal 262,144 */
     const void *msid;        /* the PIN that SID has at first: 1 to 32 bytes; null is refused */
     size_t msid_length;
     const opal_range *ranges; /* each of another range; null is none */
     size_t range_count;
-    uint32_t profile;        /* enum opal_profile. What follows is field's alone: with base it is 0 and null */
+    uint32_t profile;        /* enum opal_profile. With base what follows is 0 and null */
     const char *serial;      /* at most 20 characters of printable ASCII; none stand for "0000000001" */
     size_t serial_length;
     const char *model;       /* at most 40; none stand for "Opalport" */
     size_t model_length;
     const void *psid;        /* the PIN on the label: at most 32 bytes; none stand for "the PSID of the label" */
     size_t psid_length;
-    uint8_t has_datastore;   /* whether (0 is not) the next field says the size of DataStore; else it has 4,096 bytes */
-    uint64_t datastore;      /* at most 16,777,216 bytes; 0 is a DataStore of no byte */
+    uint8_t has_datastore;   /* whether (0 is not) the next field says the size of DataStore; else it has 4,096 bytes, with opal 10,485,760 */
+    uint64_t datastore;      /* at most 16,777,216 bytes; 0 is a DataStore of no byte. With opal at least 10,485,760 */
 } opal_config;
 
 /* A drive of the profile base with 1,000 sectors, of which 8 can be shadowed, and the MSID "OPALMSID". */
 #define OPAL_CONFIG_INIT \
     { sizeof(opal_config), 1000, 8, "OPALMSID", 8, NULL, 0, OPAL_BASE, NULL, 0, NULL, 0, NULL, 0, 0, 0 }
+
+/* A drive of the profile opal with 524,288 sectors, of which 262,144 can be shadowed, a DataStore of 10,485,760 bytes, and the
+   MSID "OPALMSID". What nothing has written takes no memory. */
+#define OPAL_CONFIG_INIT_OPAL \
+    { sizeof(opal_config), 524288, 262144, "OPALMSID", 8, NULL, 0, OPAL_OPAL, NULL, 0, NULL, 0, NULL, 0, 0, 0 }
 
 /* What a handle has, where code is OPAL_DONE. */
 typedef struct opal_about {
@@ -1200,13 +1206,13 @@ static inline const char *opal_error_text(uint32_t code)
     case OPAL_BEYOND: return "a range ends beyond the drive, or the global range has a place";
     case OPAL_MALFORMED: return "bytes are not what they are to be";
     case OPAL_SECTORS: return "a drive has 1 to 2^48 sectors";
-    case OPAL_SHADOW: return "a shadow MBR has at most 262,144 sectors, and at most all of the drive";
+    case OPAL_SHADOW: return "a shadow MBR has at most 262,144 sectors, with the profile opal just so many, and at most all of the drive";
     case OPAL_MSID: return "an MSID has 1 to 32 bytes";
     case OPAL_PROFILE: return "there is no such profile";
-    case OPAL_SERIAL: return "a serial number has at most 20 characters of printable ASCII, and only with the profile field";
-    case OPAL_MODEL: return "a model number has at most 40 characters of printable ASCII, and only with the profile field";
-    case OPAL_PSID: return "a PSID has at most 32 bytes, and only with the profile field";
-    case OPAL_DATASTORE: return "a DataStore has at most 16,777,216 bytes, and only with the profile field";
+    case OPAL_SERIAL: return "a serial number has at most 20 characters of printable ASCII, and only with the profile field or opal";
+    case OPAL_MODEL: return "a model number has at most 40 characters of printable ASCII, and only with the profile field or opal";
+    case OPAL_PSID: return "a PSID has at most 32 bytes, and only with the profile field or opal";
+    case OPAL_DATASTORE: return "a DataStore has at most 16,777,216 bytes, with the profile opal at least 10,485,760, and base has none";
     case OPAL_RANGE_TWICE: return "two rows are of one range";
     case OPAL_VERSION_DIFFERS:
         return "header and library are of versions that do not fit, or a configuration lacks its size";

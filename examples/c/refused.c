@@ -37,8 +37,8 @@ static void settings(void)
     config.size--;
     ask("a configuration of another size", &config);
     config.size++;
-    config.profile = 2;
-    ask("profile 2", &config);
+    config.profile = 3;
+    ask("profile 3", &config);
     config.profile = OPAL_BASE;
     config.sectors = 0;
     ask("no sector", &config);

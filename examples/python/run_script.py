@@ -324,11 +324,11 @@ def drive_options(words):
         return None
     if any(not re.fullmatch("([0-9a-fA-F]{2})*", it) for it in texts.values()):
         return None
-    if found.get("--profile", "base") not in ("base", "field"):
+    if found.get("--profile", "base") not in ("base", "field", "opal"):
         return None
     return {**{name: int(it) for name, it in numbers.items()}, **{name: bytes.fromhex(it) for name, it in texts.items()},
             **{it[2:]: found[it] for it in ("--serial", "--model") if it in found},
-            "field": found.get("--profile") == "field"}
+            "profile": found.get("--profile", "base")}
 
 
 def main(words, given, out):

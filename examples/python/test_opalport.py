@@ -127,7 +127,7 @@ class OnADrive(unittest.TestCase):
     def test_a_field_drive_has_commands_of_28_bits(self):
         def short(command, feature=0, device=0x40, count=1):
             return bytes([0x27, 0x80, command, feature, 5, 0, 0, device, 0, 0, 0, 0, count, 0, 0, 0, 0, 0, 0, 0])
-        with Drive(field=True) as drive:
+        with Drive(profile="field") as drive:
             self.assertEqual(drive.payload_length(short(0xCA, count=0)), 256 * SECTOR)
             self.assertEqual(drive.accept(short(0xCA), b"\x5a" * SECTOR).status, 0x50)
             self.assertEqual(drive.accept(short(0xC8)).data, b"\x5a" * SECTOR)
@@ -148,9 +148,11 @@ class OnADrive(unittest.TestCase):
             Drive(**options)
         for code, options in ((Code.SECTORS, {"sectors": 0}), (Code.SECTORS, {"sectors": 2**48 + 1}), (Code.SHADOW, {"shadow": 1001}),
                               (Code.MSID, {"msid": b""}), (Code.MSID, {"msid": bytes(33)}), (Code.SERIAL, {"serial": "1"}),
-                              (Code.SERIAL, {"field": True, "serial": "x" * 21}), (Code.MODEL, {"field": True, "model": "\n"}),
-                              (Code.PSID, {"psid": b"1"}), (Code.PSID, {"field": True, "psid": bytes(33)}),
-                              (Code.DATASTORE, {"datastore": 1}), (Code.DATASTORE, {"field": True, "datastore": 2**64 - 1})):
+                              (Code.SERIAL, {"profile": "field", "serial": "x" * 21}), (Code.MODEL, {"profile": "field", "model": "\n"}),
+                              (Code.PSID, {"psid": b"1"}), (Code.PSID, {"profile": "field", "psid": bytes(33)}),
+                              (Code.DATASTORE, {"datastore": 1}),
+                              (Code.SHADOW, {"profile": "opal", "shadow": 262_143}), (Code.DATASTORE, {"profile": "opal", "datastore": 10_485_759}),
+                              (Code.DATASTORE, {"profile": "field", "datastore": 2**64 - 1})):
             with self.assertRaises(OpalError) as it:
                 make(**options)
             self.assertEqual(it.exception.code, code)
@@ -161,9 +163,11 @@ class OnADrive(unittest.TestCase):
             self.assertEqual(it.exception.code, code)
 
     def test_what_a_drive_is_made_with(self):
-        self.assertEqual((self.drive.sectors, self.drive.shadow, self.drive.field), (1000, 8, False))
-        with Drive(sectors=2048, shadow=0, field=True) as drive:
-            self.assertEqual((drive.sectors, drive.shadow, drive.field), (2048, 0, True))
+        self.assertEqual((self.drive.sectors, self.drive.shadow, self.drive.profile), (1000, 8, "base"))
+        with Drive(sectors=2048, shadow=0, profile="field") as drive:
+            self.assertEqual((drive.sectors, drive.shadow, drive.profile), (2048, 0, "field"))
+        with Drive(profile="opal") as drive:
+            self.assertEqual((drive.sectors, drive.shadow, drive.profile), (524_288, 262_144, "opal"))
         self.drive.accept(command_fis(Command.WRITE_DMA, 99), b"\x07" * SECTOR)
         self.assertEqual((self.drive.media(99), self.drive.media(100)), (b"\x07" * SECTOR, bytes(SECTOR)))
         self.refuses(Code.NUMBER, self.drive.media, 1000)

@@ -32,6 +32,7 @@ __version__ = "0.2.0"
 FIS_LENGTH = 20
 ANY_SIZE = 2**64 - 1
 MSID = b"OPALMSID"
+PROFILES = ("base", "field", "opal")
 NAME = "libopalport.so.0"
 
 Bytes = Union[bytes, bytearray, memoryview]
@@ -99,13 +100,13 @@ _WORDS = {
     Code.BEYOND: "a range ends beyond the drive, or the global range has a place",
     Code.MALFORMED: "the bytes are not what they are to be",
     Code.SECTORS: "sectors: a drive has 1 to 2**48",
-    Code.SHADOW: "shadow: a shadow MBR has at most 262,144 sectors, and at most all of the drive",
+    Code.SHADOW: "shadow: a shadow MBR has at most 262,144 sectors, with the profile opal just so many, and at most all of the drive",
     Code.MSID: "msid: it has 1 to 32 bytes",
     Code.PROFILE: "there is no such profile",
-    Code.SERIAL: "serial: at most 20 characters of printable ASCII, and with field=True alone",
-    Code.MODEL: "model: at most 40 characters of printable ASCII, and with field=True alone",
-    Code.PSID: "psid: at most 32 bytes, and with field=True alone",
-    Code.DATASTORE: "datastore: at most 16,777,216 bytes, and with field=True alone",
+    Code.SERIAL: "serial: at most 20 characters of printable ASCII, and with profile="field" or "opal" alone",
+    Code.MODEL: "model: at most 40 characters of printable ASCII, and with profile="field" or "opal" alone",
+    Code.PSID: "psid: at most 32 bytes, and with profile="field" or "opal" alone",
+    Code.DATASTORE: "datastore: at most 16,777,216 bytes, and with profile="field" or "opal" alone",
     Code.RANGE_TWICE: "ranges: two rows are of one range; give one row for each",
     Code.VERSION_DIFFERS: "the module and the library are of versions that do not fit; OPALPORT_LIBRARY names another library",
     Code.SHARED: "a buffer that is written has a byte in common with another one",
@@ -579,13 +580,17 @@ class _Object:
 
     _make = ""
 
-    def __init__(self, *, sectors: int = 1000, shadow: int = 8, msid: Bytes = MSID, ranges: Sequence[Range] = (),
-                 field: bool = False, serial: str = "", model: str = "", psid: Bytes = b"",
+    def __init__(self, *, sectors: Optional[int] = None, shadow: Optional[int] = None, msid: Bytes = MSID, ranges: Sequence[Range] = (),
+                 profile: str = "base", serial: str = "", model: str = "", psid: Bytes = b"",
                  datastore: Optional[int] = None) -> None:
         self._handle, self._lock = _Handle(), threading.RLock()
         rows = (_Range * len(ranges))(*(_row(it) for it in ranges))
         store = ANY_SIZE if datastore is None else min(_within(datastore, ANY_SIZE), ANY_SIZE - 1)
-        size = _Size(_within(sectors, 2**64 - 1), _within(shadow, 2**64 - 1), store, 1 if field else 0)
+        if profile not in PROFILES:
+            raise ValueError(f"{profile!r} is no profile: {', '.join(PROFILES)}")
+        new = (524_288, 262_144) if profile == "opal" else (1000, 8)
+        sizes = (_within(new[at] if it is None else it, 2**64 - 1) for at, it in enumerate((sectors, shadow)))
+        size = _Size(*sizes, store, PROFILES.index(profile))
         texts = _bytes(serial.encode("utf-8")), _bytes(model.encode("utf-8"))
         make = getattr(_LIBRARY, self._make)
         _check(make(self._handle, size, *_bytes(msid), *texts[0], *texts[1], *_bytes(psid), rows, len(ranges)))
@@ -629,9 +634,9 @@ class _Object:
         return int(self._about().shadow)
 
     @property
-    def field(self) -> bool:
-        """Whether the drive is of the profile field."""
-        return bool(self._about().profile == 1)
+    def profile(self) -> str:
+        """How much the drive knows: base, field or opal."""
+        return PROFILES[self._about().profile]
 
     def media(self, lba: int) -> bytes:
         """The 512 bytes of a sector as the media hold them, whatever is locked or shadowed: a look for a test, and no act."""

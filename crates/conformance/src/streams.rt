@@ -85,14 +85,14 @@ const BEFORE_THE_FAULT: &[u8] =
 
 fn options(alloc: Global, sectors: &str) -> Result<Options, Fail> {
     let texts = DriveTexts {
-        sectors,
-        shadow: "8",
+        sectors: Some(sectors),
+        shadow: None,
         msid: "4f50414c4d534944",
         profile: "base",
-        serial: "",
-        model: "",
-        psid: "",
-        datastore: "",
+        serial: None,
+        model: None,
+        psid: None,
+        datastore: None,
     };
     Ok(Options::parse(alloc, &texts)?)
 }

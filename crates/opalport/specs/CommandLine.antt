@@ -19,7 +19,7 @@ option_rule name default =
 abbrev pub free_rule : Text → Rule
 free_rule name = record (new_rule name) { long = Some name; value_names = 1 }
 
--- with the options of a field drive: what it tells of itself, and the PIN on its label
+-- with the options of a field or an opal drive: what it tells of itself, the PIN on its label, and its DataStore
 abbrev pub with_label_rules : App → App
 with_label_rules app =
     with_rule
@@ -33,8 +33,7 @@ with_drive_rules app =
     with_label_rules
     (with_rule
     (with_rule
-    (with_rule (with_rule app (option_rule (codes "sectors") (codes "1000")))
-    (option_rule (codes "shadow") (codes "8")))
+    (with_rule (with_rule app (free_rule (codes "sectors"))) (free_rule (codes "shadow")))
     (option_rule (codes "msid") (codes "4f50414c4d534944")))
     (option_rule (codes "profile") (codes "base")))
 
@@ -152,17 +151,17 @@ wanted_by (Explore texts) =
 abbrev pub text_of : Text → List Row → Text
 text_of id rows = unwrap_or (first_of id rows) []
 
--- the texts of the options that say which drive; one that is left out, and has no default, is empty
+-- the texts of the options that say which drive; one that is left out, and has no default, has none
 abbrev pub drive_in : List Row → DriveText
 drive_in rows = record {
-  sectors = text_of (codes "sectors") rows;
-  shadow = text_of (codes "shadow") rows;
+  sectors = first_of (codes "sectors") rows;
+  shadow = first_of (codes "shadow") rows;
   msid = text_of (codes "msid") rows;
   profile = text_of (codes "profile") rows;
-  serial = text_of (codes "serial") rows;
-  model = text_of (codes "model") rows;
-  psid = text_of (codes "psid") rows;
-  datastore = text_of (codes "datastore") rows;
+  serial = first_of (codes "serial") rows;
+  model = first_of (codes "model") rows;
+  psid = first_of (codes "psid") rows;
+  datastore = first_of (codes "datastore") rows;
 }
 
 -- the texts of the ranges, in their order

@@ -1,7 +1,7 @@
 //! The words of the command line, and what they ask for.
 
 ghost use Rattle.std.specs.Prelude.{◌≡◌, IfOk, true, map, option_map, option_and_then, string_bytes, codes};
-ghost use Rattle.clap.specs.Words.{App, FailsBy, app_of, fault_of, found_of, new_app, rows_of, subcommand_rows_of, with_rule, with_subcommand};
+ghost use Rattle.clap.specs.Words.{App, FailsBy, app_of, fault_of, first_of, found_of, new_app, rows_of, subcommand_rows_of, with_rule, with_subcommand};
 ghost use Rattle.tool.specs.OptionTexts.{drive_text};
 ghost use Rattle.opalport.specs.CommandLine.{top_line, option_rule, free_rule, required_rule, flag_rule, with_drive_rules, drive_line, drive_in, hba_line, explore_line, run_line, has_flag, range_rule, range_texts, optional_rule, threads_line, tokens_line, decode_line, opalport_line, text_of, naming_in, wanted_by, asked_of, asked_by};
 
@@ -104,7 +104,7 @@ Lines, whose words stand between blanks; numbers are decimal, HH is two hex digi
   recv C ID BLOCKS                  so many blocks of 512 bytes from the ComID ID
                                     (1: Level 0 discovery)
   secin C P S BLOCKS                the same by the security protocol P, with S as SP Specific
-                                    (0 and 0: the list of protocols, of a field drive)
+                                    (0 and 0: the list of protocols, of a field or opal drive)
   secout C P S HEX                  the bytes HEX by it, with zeros to the end of a block
   identify C                        what the drive says that it is
   log C                             the log page of the last queued error
@@ -234,30 +234,22 @@ fn with_ranges<'a>(command: Command<'a>, alloc: Global) -> Result<Command<'a>, A
 fn with_drive<'a>(command: Command<'a>, alloc: Global) -> Result<Command<'a>, AllocError>
     ensures { IfOk result (λ c. app_of c ≡ with_drive_rules (app_of command.entry)) }
 {
-    let profiles = "base, or field: what unmodified drivers ask for beside it";
+    let profiles = "base; field: what unmodified drivers ask for beside it; or opal";
     let pin = "4f50414c4d534944";
-    let c = with_option(
-        command,
-        alloc,
-        "sectors",
-        "N",
-        "1000",
-        "The number of sectors",
-    )?;
-    let c = with_option(
-        c,
-        alloc,
-        "shadow",
-        "N",
-        "8",
-        "The number of sectors of the MBR shadow",
-    )?;
+    let sectors = "The number of sectors (1000; of an opal drive 524288)";
+    let shadow = "The number of sectors of the MBR shadow (8; of an opal drive 262144)";
+    let serial = "Serial number of a field or opal drive";
+    let model = "Model number of a field or opal drive";
+    let psid = "PIN on the label of a field or opal drive";
+    let datastore = "Bytes of its DataStore (field: 4096; opal: 10485760)";
+    let c = with_free_option(command, alloc, "sectors", "N", sectors)?;
+    let c = with_free_option(c, alloc, "shadow", "N", shadow)?;
     let c = with_option(c, alloc, "msid", "HEX", pin, "The manufactured PIN")?;
     let c = with_option(c, alloc, "profile", "NAME", "base", profiles)?;
-    let c = with_free_option(c, alloc, "serial", "TEXT", "Serial number of a field drive")?;
-    let c = with_free_option(c, alloc, "model", "TEXT", "Model number of a field drive")?;
-    let c = with_free_option(c, alloc, "psid", "HEX", "PIN on the label of a field drive")?;
-    with_free_option(c, alloc, "datastore", "N", "Bytes of field's DataStore")
+    let c = with_free_option(c, alloc, "serial", "TEXT", serial)?;
+    let c = with_free_option(c, alloc, "model", "TEXT", model)?;
+    let c = with_free_option(c, alloc, "psid", "HEX", psid)?;
+    with_free_option(c, alloc, "datastore", "N", datastore)
 }
 
 /// A command with what it is for, and what its help says behind its options.
@@ -419,19 +411,26 @@ fn text_of<'a>(matches: &ArgMatches<'a>, id: &str) -> &'a str
     matches.get_str(id).unwrap_or("")
 }
 
+/// The text of an option that may be left out, as it is written.
+fn free_text_of<'a>(matches: &ArgMatches<'a>, id: &str) -> Option<&'a str>
+    ensures { option_map (λ s. s.now) result ≡ first_of id.now (rows_of (found_of matches.now)) }
+{
+    matches.get_str(id)
+}
+
 /// The options that say which drive.
 fn drive_texts<'a>(matches: &ArgMatches<'a>) -> DriveTexts<'a>
     ensures { drive_text result ≡ drive_in (rows_of (found_of matches.now)) }
 {
     DriveTexts {
-        sectors: text_of(matches, "sectors"),
-        shadow: text_of(matches, "shadow"),
+        sectors: free_text_of(matches, "sectors"),
+        shadow: free_text_of(matches, "shadow"),
         msid: text_of(matches, "msid"),
         profile: text_of(matches, "profile"),
-        serial: text_of(matches, "serial"),
-        model: text_of(matches, "model"),
-        psid: text_of(matches, "psid"),
-        datastore: text_of(matches, "datastore"),
+        serial: free_text_of(matches, "serial"),
+        model: free_text_of(matches, "model"),
+        psid: free_text_of(matches, "psid"),
+        datastore: free_text_of(matches, "datastore"),
     }
 }
 

@@ -3,9 +3,9 @@ use Rattle.std.specs.Prelude.{◌≡◌, ◌⊎◌, ◌≤◌, ℕ, ◌-◌, ◌
 use Rattle.std.specs.List.{list_all, list_any}
 use Rattle.basics.specs.Addresses.{address_limit}
 use Rattle.basics.specs.declared.profile.Profile.{Profile}
-use Rattle.basics.specs.declared.profile.Profile.TheVariants.{Base, Field}
+use Rattle.basics.specs.declared.profile.Profile.TheVariants.{Base, Field, Opal}
 use Rattle.locking.specs.declared.range.RangeRow.{RangeRow}
-use Rattle.sp_cells.specs.Config.{Config, IsWithinLimits, AreNames, IsLabel, is_printable, config_in, named_config, labelled_config, stored_config, new_serial, new_model, new_psid, new_datastore}
+use Rattle.sp_cells.specs.Config.{Config, IsWithinLimits, HasOwnShadow, HasOwnStore, is_own_shadow, AreNames, IsLabel, is_printable, config_in, named_config, labelled_config, stored_config, new_serial, new_model, new_psid, new_datastore}
 use Rattle.sp_cells.specs.Limits.{most_mbr_sectors, most_datastore_bytes, most_pin_bytes, most_serial_bytes, most_model_bytes}
 use Rattle.sp_cells.specs.declared.error.SetError.{SetError}
 use Rattle.history.specs.Opening.{Origin, opened_with}
@@ -34,7 +34,8 @@ row_asked cells = record {
 
 abbrev pub profile_asked : ℕ → Option Profile
 profile_asked number = if number == 0 then Some Base
-    else (if number == 1 then Some Field else None)
+    else (if number == 1 then Some Field
+    else (if number == 2 then Some Opal else None))
 
 -- what stands for that of a drive that is given none
 abbrev pub bytes_or : List ℕ → List ℕ → List ℕ
@@ -51,14 +52,21 @@ abbrev pub is_bare : List ℕ → List ℕ → List ℕ → Bool
 is_bare serial model psid =
     (length serial == 0) && (length model == 0) && (length psid == 0)
 
+-- a drive of a further profile, with what it is given
+abbrev pub config_of : Profile → Size → List ℕ → List ℕ → List ℕ → List ℕ → Config
+config_of profile size msid serial model psid = stored_config
+    (labelled_config (named_config (config_in profile size.sectors size.shadow msid)
+    (bytes_or serial new_serial) (bytes_or model new_model)) (bytes_or psid new_psid))
+    (store_or profile size.datastore)
+
 -- The configuration is the one that is asked for. A drive of `Base` is given no names.
 abbrev pub NamesAsked : Profile → Size → List ℕ → List ℕ → List ℕ → List ℕ → Config → Type 0
 NamesAsked Base size msid serial model psid config = (is_bare serial model psid ≡ true)
     × (config ≡ config_in Base size.sectors size.shadow msid)
-NamesAsked Field size msid serial model psid config = config ≡ stored_config
-    (labelled_config (named_config (config_in Field size.sectors size.shadow msid)
-    (bytes_or serial new_serial) (bytes_or model new_model)) (bytes_or psid new_psid))
-    (store_or Field size.datastore)
+NamesAsked Field size msid serial model psid config =
+    config ≡ config_of Field size msid serial model psid
+NamesAsked Opal size msid serial model psid config =
+    config ≡ config_of Opal size msid serial model psid
 
 abbrev pub ConfigAsked : Size → List ℕ → List ℕ → List ℕ → List ℕ → Config → Type 0
 ConfigAsked size msid serial model psid config = (profile_asked size.profile ≡ Some config.profile)
@@ -70,17 +78,20 @@ pub record FitsBase (size : Size) (msid serial model psid : List ℕ) : Type 0 w
   pub bare : is_bare serial model psid ≡ true
   pub datastore : size.datastore ≡ any_size
 
--- There is one of `Field`: within the limits, with names, a PIN on its label and a DataStore that fit.
-pub record FitsField (size : Size) (msid serial model psid : List ℕ) : Type 0 where
+-- There is one of a further profile: within the limits, with a shadow, names, a PIN on its label and a DataStore that fit.
+pub record FitsBeyond (profile : Profile) (size : Size) (msid serial model psid : List ℕ) : Type 0 where
   pub limits : IsWithinLimits size.sectors size.shadow msid
+  pub shadow : HasOwnShadow profile size.shadow
   pub names : AreNames (bytes_or serial new_serial) (bytes_or model new_model)
   pub label : IsLabel (bytes_or psid new_psid)
-  pub datastore : store_or Field size.datastore ≤ most_datastore_bytes
+  pub datastore : store_or profile size.datastore ≤ most_datastore_bytes
+  pub store : HasOwnStore profile (store_or profile size.datastore)
 
 abbrev pub FitsProfile : Option Profile → Size → List ℕ → List ℕ → List ℕ → List ℕ → Type 0
 FitsProfile None size msid serial model psid = ⊥
 FitsProfile (Some Base) size msid serial model psid = FitsBase size msid serial model psid
-FitsProfile (Some Field) size msid serial model psid = FitsField size msid serial model psid
+FitsProfile (Some Field) size msid serial model psid = FitsBeyond Field size msid serial model psid
+FitsProfile (Some Opal) size msid serial model psid = FitsBeyond Opal size msid serial model psid
 
 -- Two rows are of one range.
 abbrev pub is_row_of : ℕ → RangeCells → Bool
@@ -95,12 +106,14 @@ abbrev pub CanBe : Size → List ℕ → List ℕ → List ℕ → List ℕ → 
 CanBe size msid serial model psid cells = (names_twice cells ≡ false)
     × FitsProfile (profile_asked size.profile) size msid serial model psid
 
--- whether a drive has so many sectors, and of these so many that can be shadowed; whether it has such an MSID
+-- whether a drive has so many sectors, and one of this profile so many of these that can be shadowed; whether it has such
+-- an MSID
 abbrev pub has_sectors : ℕ → Bool
 has_sectors sectors = nat_le 1 sectors && nat_le sectors address_limit
 
-abbrev pub has_shadow : ℕ → ℕ → Bool
-has_shadow sectors shadow = nat_le shadow most_mbr_sectors && nat_le shadow sectors
+abbrev pub has_shadow : Profile → ℕ → ℕ → Bool
+has_shadow profile sectors shadow =
+    nat_le shadow most_mbr_sectors && nat_le shadow sectors && is_own_shadow profile shadow
 
 abbrev pub has_msid : List ℕ → Bool
 has_msid msid = nat_le 1 (length msid) && nat_le (length msid) most_pin_bytes
@@ -109,10 +122,12 @@ has_msid msid = nat_le 1 (length msid) && nat_le (length msid) most_pin_bytes
 abbrev pub takes_name : Profile → ℕ → List ℕ → Bool
 takes_name Base most name = length name == 0
 takes_name Field most name = nat_le (length name) most && list_all is_printable name
+takes_name Opal most name = nat_le (length name) most && list_all is_printable name
 
 abbrev pub takes_label : Profile → List ℕ → Bool
 takes_label Base psid = length psid == 0
 takes_label Field psid = nat_le (length psid) most_pin_bytes
+takes_label Opal psid = nat_le (length psid) most_pin_bytes
 
 -- Which setting is outside its limits, the first in this order: the rows, the profile, the sectors, the shadow, the MSID,
 -- the names, the label. Where it is none of these, it is DataStore.
@@ -124,7 +139,7 @@ wrong_name profile serial model psid = if takes_name profile most_serial_bytes s
 
 abbrev pub wrong_number : Profile → Size → List ℕ → List ℕ → List ℕ → List ℕ → CallError
 wrong_number profile size msid serial model psid = if has_sectors size.sectors
-    then (if has_shadow size.sectors size.shadow
+    then (if has_shadow profile size.sectors size.shadow
     then (if has_msid msid then wrong_name profile serial model psid else refusals.Msid)
     else refusals.Shadow) else refusals.Sectors
 

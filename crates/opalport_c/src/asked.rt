@@ -1,8 +1,10 @@
 //! A drive, as a caller from outside asks for it.
 
-ghost use Rattle.std.specs.Prelude.{◌≡◌, ◌⊎◌, [], None, Some, ◌==◌, map, IfOk, IfErr, IfSome, OnOk, MatchOption, MatchResult};
+ghost use Rattle.std.specs.Prelude.{◌≡◌, ◌⊎◌, [], None, Some, ◌==◌, map, IfOk, IfErr, IfSome, OnOk, SomeIff, MatchOption, MatchResult};
+ghost use Rattle.basics.specs.declared.profile.Profile.TheVariants.{Base};
+ghost use Rattle.sp_cells.specs.Config.{config_in};
 ghost use Rattle.drive.specs.State.{Agrees};
-ghost use Rattle.opalport_c.specs.Asked.{row_asked, profile_asked, bytes_or, is_bare, store_or, CanBe, ConfigAsked, StartsAs, IsStartFault, IsMadeAs, IsMakingFault};
+ghost use Rattle.opalport_c.specs.Asked.{row_asked, profile_asked, bytes_or, is_bare, store_or, config_of, FitsBase, FitsBeyond, CanBe, ConfigAsked, StartsAs, IsStartFault, IsMadeAs, IsMakingFault};
 ghost use Rattle.library_calls.specs.declared.byte_calls.error.CallError.TheVariants.{OutOfMemory};
 
 use crate::refusals::of_set;
@@ -22,11 +24,12 @@ pub const ANY_SIZE: u64 = u64::MAX;
 pub struct Size {
     /// 1 to 2^48 sectors of 512 bytes.
     pub sectors: u64,
-    /// Those of them that the shadow MBR can have: at most 262,144.
+    /// Those of them that the shadow MBR can have: at most 262,144, and of a drive of the profile 2 just so many.
     pub shadow: u64,
-    /// The bytes of DataStore, at most 16,777,216, or [`ANY_SIZE`]. A drive of the profile 0 takes `ANY_SIZE` alone.
+    /// The bytes of DataStore, at most 16,777,216, or [`ANY_SIZE`]. A drive of the profile 0 takes `ANY_SIZE` alone, and one
+    /// of the profile 2 at least 10,485,760.
     pub datastore: u64,
-    /// 0 is `Base`, 1 is `Field`.
+    /// 0 is `Base`, 1 is `Field`, 2 is `Opal`.
     pub profile: u32,
 }
 
@@ -83,6 +86,7 @@ pub(crate) fn profile_asked(number: u32) -> Option<Profile>
     match number {
         0 => Some(Profile::Base),
         1 => Some(Profile::Field),
+        2 => Some(Profile::Opal),
         _ => None,
     }
 }
@@ -117,6 +121,34 @@ fn store_or(profile: Profile, datastore: u64) -> u64
     }
 }
 
+/// The configuration of a drive of `Base`, if there is one with these numbers and no names.
+fn base_config(size: &Size, names: &Names<'_>) -> Option<DriveConfig>
+    ensures { SomeIff result (FitsBase size.now names.now.msid.now names.now.serial.now
+        names.now.model.now names.now.psid.now)
+        (config_in Base size.now.sectors size.now.shadow names.now.msid.now) }
+{
+    let config = DriveConfig::new(size.sectors, size.shadow, names.msid)?;
+    if !names.is_bare() || size.datastore != ANY_SIZE {
+        return None;
+    }
+    Some(config)
+}
+
+/// The configuration of a drive of a further profile, if there is one with these numbers and names.
+fn config_of(profile: Profile, size: &Size, names: &Names<'_>) -> Option<DriveConfig>
+    ensures { SomeIff result (FitsBeyond profile size.now names.now.msid.now names.now.serial.now
+        names.now.model.now names.now.psid.now)
+        (config_of profile size.now names.now.msid.now names.now.serial.now names.now.model.now
+        names.now.psid.now) }
+{
+    let config = DriveConfig::of_profile(profile, size.sectors, size.shadow, names.msid)?;
+    let serial = bytes_or(names.serial, &NEW_SERIAL);
+    let model = bytes_or(names.model, &NEW_MODEL);
+    let config = config.with_names(serial, model)?;
+    let config = config.with_psid(bytes_or(names.psid, &NEW_PSID))?;
+    config.with_datastore(store_or(profile, size.datastore))
+}
+
 /// The configuration that is asked for, if there is such a drive.
 pub fn config_asked(size: &Size, names: &Names<'_>, cells: &[RangeCells]) -> Option<DriveConfig>
     ensures value { IfSome result (ConfigAsked size.now names.now.msid.now names.now.serial.now
@@ -130,19 +162,11 @@ pub fn config_asked(size: &Size, names: &Names<'_>, cells: &[RangeCells]) -> Opt
     if names_twice(cells) {
         return None;
     }
-    let profile = profile_asked(size.profile)?;
-    let config = DriveConfig::of_profile(profile, size.sectors, size.shadow, names.msid)?;
-    if profile == Profile::Base {
-        if !names.is_bare() || size.datastore != ANY_SIZE {
-            return None;
-        }
-        return Some(config);
+    match profile_asked(size.profile)? {
+        Profile::Base => base_config(size, names),
+        Profile::Field => config_of(Profile::Field, size, names),
+        Profile::Opal => config_of(Profile::Opal, size, names),
     }
-    let serial = bytes_or(names.serial, &NEW_SERIAL);
-    let model = bytes_or(names.model, &NEW_MODEL);
-    let config = config.with_names(serial, model)?;
-    let config = config.with_psid(bytes_or(names.psid, &NEW_PSID))?;
-    config.with_datastore(store_or(profile, size.datastore))
 }
 
 /// The rows of cells.

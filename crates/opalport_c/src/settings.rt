@@ -8,6 +8,7 @@ ghost use Rattle.opalport_c.specs.Asked.{is_row_of, names_twice, has_sectors, ha
 use crate::asked::{Names, RangeCells, Size, profile_asked};
 use basics::{ADDRESS_LIMIT, Profile};
 use library_calls::byte_calls::CallError;
+use sp_cells::config::is_own_shadow;
 use sp_cells::limits::{MOST_MBR_SECTORS, MOST_MODEL_BYTES, MOST_PIN_BYTES, MOST_SERIAL_BYTES};
 
 /// Whether one of the rows is of this range.
@@ -40,11 +41,13 @@ impl Size {
         self.sectors >= 1 && self.sectors <= ADDRESS_LIMIT
     }
 
-    /// Whether so many of them can be shadowed.
-    fn has_shadow(&self) -> bool
-        ensures { result ≡ has_shadow self.now.sectors self.now.shadow }
+    /// Whether so many of them can be shadowed on a drive of this profile.
+    fn has_shadow(&self, profile: Profile) -> bool
+        ensures { result ≡ has_shadow profile self.now.sectors self.now.shadow }
     {
-        self.shadow <= MOST_MBR_SECTORS && self.shadow <= self.sectors
+        self.shadow <= MOST_MBR_SECTORS
+            && self.shadow <= self.sectors
+            && is_own_shadow(profile, self.shadow)
     }
 }
 
@@ -68,7 +71,7 @@ fn takes_name(profile: Profile, most: usize, name: &[u8]) -> bool
 {
     match profile {
         Profile::Base => name.is_empty(),
-        Profile::Field => name.len() <= most && are_printable(name),
+        Profile::Field | Profile::Opal => name.len() <= most && are_printable(name),
     }
 }
 
@@ -78,7 +81,7 @@ fn takes_label(profile: Profile, psid: &[u8]) -> bool
 {
     match profile {
         Profile::Base => psid.is_empty(),
-        Profile::Field => psid.len() <= MOST_PIN_BYTES,
+        Profile::Field | Profile::Opal => psid.len() <= MOST_PIN_BYTES,
     }
 }
 
@@ -107,7 +110,7 @@ fn wrong_number(profile: Profile, size: &Size, names: &Names<'_>) -> CallError
     if !size.has_sectors() {
         return CallError::Sectors;
     }
-    if !size.has_shadow() {
+    if !size.has_shadow(profile) {
         return CallError::Shadow;
     }
     if !has_msid(names.msid) {

@@ -1,105 +1,151 @@
 -- What the options of the command line write.
-use Rattle.std.specs.Prelude.{◌≡◌, ◌≤◌, ℕ, ◌==◌, Bool, true, false, not, ◌||◌, List, length, codes, Option, None, Some, Result, Ok, Err, IsOk, if◌then◌else◌}
+use Rattle.std.specs.Prelude.{◌≡◌, ◌≤◌, ℕ, Bool, true, false, not, ◌||◌, List, [], ◌∷◌, length, codes, Option, None, Some, Result, Ok, Err, IsOk, is_some, option_map, if◌then◌else◌}
 use Rattle.std.specs.Str.{bytes_eq}
 use Rattle.hex.specs.Hex.{decode_of}
 use Rattle.hex.specs.declared.error.FromHexError.{FromHexError}
 use Rattle.basics.specs.declared.profile.Profile.{Profile}
-use Rattle.basics.specs.declared.profile.Profile.TheVariants.{Base, Field}
-use Rattle.sp_cells.specs.Config.{Config, IsWithinLimits, AreNames, IsLabel, new_serial, new_model, new_psid, new_datastore}
-use Rattle.sp_cells.specs.Limits.{most_datastore_bytes}
+use Rattle.basics.specs.declared.profile.Profile.TheVariants.{Base, Field, Opal}
+use Rattle.sp_cells.specs.Config.{Config, IsWithinLimits, HasOwnShadow, HasOwnStore, AreNames, IsLabel, new_serial, new_model, new_psid, new_datastore}
+use Rattle.sp_cells.specs.Limits.{most_datastore_bytes, opal_mbr_sectors}
 use Rattle.script_lines.specs.Numbers.{number_up_to, largest}
 use Rattle.tool.specs.declared.options.DriveTexts.{DriveTexts}
 use Rattle.tool.specs.declared.options.OptionsFault.{OptionsFault}
 use Rattle.tool.specs.declared.options.OptionsFault.TheVariants as faults
 
--- the texts of the options that say which drive
+-- the texts of the options that say which drive; one that is left out has none
 pub record DriveText : Type 0 where
-  pub sectors : List ℕ
-  pub shadow : List ℕ
+  pub sectors : Option (List ℕ)
+  pub shadow : Option (List ℕ)
   pub msid : List ℕ
   pub profile : List ℕ
-  pub serial : List ℕ
-  pub model : List ℕ
-  pub psid : List ℕ
-  pub datastore : List ℕ
+  pub serial : Option (List ℕ)
+  pub model : Option (List ℕ)
+  pub psid : Option (List ℕ)
+  pub datastore : Option (List ℕ)
 
 abbrev pub drive_text : DriveTexts → DriveText
 drive_text texts = record {
-  sectors = texts.sectors.now;
-  shadow = texts.shadow.now;
+  sectors = option_map (λ s. s.now) texts.sectors;
+  shadow = option_map (λ s. s.now) texts.shadow;
   msid = texts.msid.now;
   profile = texts.profile.now;
-  serial = texts.serial.now;
-  model = texts.model.now;
-  psid = texts.psid.now;
-  datastore = texts.datastore.now;
+  serial = option_map (λ s. s.now) texts.serial;
+  model = option_map (λ s. s.now) texts.model;
+  psid = option_map (λ s. s.now) texts.psid;
+  datastore = option_map (λ s. s.now) texts.datastore;
 }
 
 abbrev pub profile_named : List ℕ → Option Profile
 profile_named name =
     if bytes_eq name (codes "base") then Some Base
-    else (if bytes_eq name (codes "field") then Some Field else None)
+    else (if bytes_eq name (codes "field") then Some Field
+    else (if bytes_eq name (codes "opal") then Some Opal else None))
 
--- a text, or another one where it is empty
-abbrev pub text_or : List ℕ → List ℕ → List ℕ
-text_or text other = if length text == 0 then other else text
+-- the sectors of a drive that is told none, and those of its shadow (this drive; an Opal drive has a shadow of 128 MiB:
+-- Opal SSC 2.01, section 4.3.5.4)
+abbrev pub new_sectors : Option Profile → ℕ
+new_sectors None = 1000
+new_sectors (Some Base) = 1000
+new_sectors (Some Field) = 1000
+new_sectors (Some Opal) = 524288
+
+abbrev pub new_shadow : Option Profile → ℕ
+new_shadow None = 8
+new_shadow (Some Base) = 8
+new_shadow (Some Field) = 8
+new_shadow (Some Opal) = opal_mbr_sectors
+
+-- the number that a text writes, or another one where there is no text
+abbrev pub size_or : ℕ → Option (List ℕ) → Option ℕ
+size_or other None = Some other
+size_or other (Some text) = number_up_to (largest 64) text
+
+-- the sectors that the texts write, and those of the shadow
+abbrev pub sectors_in : DriveText → Option ℕ
+sectors_in texts = size_or (new_sectors (profile_named texts.profile)) texts.sectors
+
+abbrev pub shadow_in : DriveText → Option ℕ
+shadow_in texts = size_or (new_shadow (profile_named texts.profile)) texts.shadow
+
+-- a text, or another one where there is none
+abbrev pub text_or : List ℕ → Option (List ℕ) → List ℕ
+text_or other None = other
+text_or other (Some text) = text
 
 -- the bytes that hex writes, or the PSID of a drive that is given none
-abbrev pub label_of : List ℕ → Result (List ℕ) FromHexError
-label_of text = if length text == 0 then Ok new_psid else decode_of text
+abbrev pub label_of : Option (List ℕ) → Result (List ℕ) FromHexError
+label_of None = Ok new_psid
+label_of (Some text) = decode_of text
 
 -- a serial number, a model number or a PSID is given
 abbrev pub has_names : DriveText → Bool
-has_names texts = not (length texts.serial == 0)
-    || (not (length texts.model == 0) || not (length texts.psid == 0))
+has_names texts = is_some texts.serial || (is_some texts.model || is_some texts.psid)
 
 -- which a drive of the base profile is not
 abbrev pub may_have_names : Profile → DriveText → Bool
 may_have_names Base texts = not (has_names texts)
 may_have_names Field texts = true
+may_have_names Opal texts = true
+
+-- a drive of the base profile has no DataStore
+abbrev pub may_have_store : Profile → DriveText → Bool
+may_have_store Base texts = not (is_some texts.datastore)
+may_have_store Field texts = true
+may_have_store Opal texts = true
 
 -- the bytes of DataStore that a number says, or those of a drive that is told none
-abbrev pub store_of : Profile → List ℕ → Option ℕ
-store_of profile text =
-    if length text == 0 then Some (new_datastore profile) else number_up_to (largest 64) text
+abbrev pub store_of : Profile → Option (List ℕ) → Option ℕ
+store_of profile text = size_or (new_datastore profile) text
 
--- a drive of the base profile has none
-abbrev pub may_have_store : Profile → DriveText → Bool
-may_have_store Base texts = length texts.datastore == 0
-may_have_store Field texts = true
+-- a text is given, and is empty
+abbrev pub is_empty_text : Option (List ℕ) → Bool
+is_empty_text (Some []) = true
+is_empty_text (Some (byte ∷ bytes)) = false
+is_empty_text None = false
 
--- what is given beside the profile is the profile's to have, and writes the bytes of DataStore
+-- a name is given that has no character
+abbrev pub has_empty_name : DriveText → Bool
+has_empty_name texts = is_empty_text texts.serial || is_empty_text texts.model
+
+-- what is given beside the profile is the profile's to have, writes the bytes of DataStore, and has no empty name
 pub record IsStore (profile : Profile) (texts : DriveText) (datastore : ℕ) : Type 0 where
   pub names_wanted : may_have_names profile texts ≡ true
   pub store_wanted : may_have_store profile texts ≡ true
   pub number : store_of profile texts.datastore ≡ Some datastore
+  pub some_names : has_empty_name texts ≡ false
 
 -- The texts write the configuration: two decimal numbers of 64 bits, hex, the name of a profile, the names of a drive,
--- hex, and a decimal number.
+-- hex, and a decimal number. What is left out is as in a new drive of the profile.
 pub record WritesConfig (texts : DriveText) (config : Config) : Type 0 where
-  pub sectors_written : number_up_to (largest 64) texts.sectors ≡ Some config.sectors
-  pub shadow_written : number_up_to (largest 64) texts.shadow ≡ Some config.mbr_sectors
+  pub sectors_written : sectors_in texts ≡ Some config.sectors
+  pub shadow_written : shadow_in texts ≡ Some config.mbr_sectors
   pub msid_written : decode_of texts.msid ≡ Ok config.msid
   pub profile_written : profile_named texts.profile ≡ Some config.profile
-  pub serial_written : config.serial ≡ text_or texts.serial new_serial
-  pub model_written : config.model ≡ text_or texts.model new_model
+  pub serial_written : config.serial ≡ text_or new_serial texts.serial
+  pub model_written : config.model ≡ text_or new_model texts.model
   pub psid_written : label_of texts.psid ≡ Ok config.psid
   pub store_written : IsStore config.profile texts config.datastore
+
+-- its sizes are within the limits, and the shadow is as large as the profile wants it
+abbrev pub HasDriveSizes : Config → Type 0
+HasDriveSizes config =
+    IsWithinLimits config.sectors config.mbr_sectors config.msid
+    × HasOwnShadow config.profile config.mbr_sectors
+
+-- so is its DataStore
+abbrev pub HasStoreSize : Config → Type 0
+HasStoreSize config =
+    (config.datastore ≤ most_datastore_bytes) × HasOwnStore config.profile config.datastore
 
 -- The configuration is within the limits, and so are its names.
 abbrev pub IsOfDrive : Config → Type 0
 IsOfDrive config =
-    IsWithinLimits config.sectors config.mbr_sectors config.msid
-    × AreNames config.serial config.model × IsLabel config.psid
-    × (config.datastore ≤ most_datastore_bytes)
+    HasDriveSizes config
+    × AreNames config.serial config.model × IsLabel config.psid × HasStoreSize config
 
--- the text is no such number
-abbrev pub IsNoNumber : List ℕ → Type 0
-IsNoNumber text = number_up_to (largest 64) text ≡ None
-
--- both are
+-- the numbers of sectors are written as numbers
 abbrev pub AreNumbers : DriveText → Type 0
-AreNumbers texts = (IsNoNumber texts.sectors → ⊥) × (IsNoNumber texts.shadow → ⊥)
+AreNumbers texts = (sectors_in texts ≡ None → ⊥) × (shadow_in texts ≡ None → ⊥)
 
 -- both PINs are written in hex
 abbrev pub AreHex : DriveText → Type 0
@@ -113,6 +159,9 @@ IsStoreFault profile texts faults.DatastoreOfBase =
 IsStoreFault profile texts faults.Datastore =
     (may_have_names profile texts ≡ true) × (may_have_store profile texts ≡ true)
     × (store_of profile texts.datastore ≡ None)
+IsStoreFault profile texts faults.EmptyName =
+    (may_have_names profile texts ≡ true) × (may_have_store profile texts ≡ true)
+    × (store_of profile texts.datastore ≡ None → ⊥) × (has_empty_name texts ≡ true)
 IsStoreFault profile texts fault = ⊥
 
 abbrev pub IsFaultUnder : DriveText → OptionsFault → Type 0
@@ -124,9 +173,9 @@ IsFaultUnder texts fault =
 -- The fault is the first one of the texts: each text is looked at in turn, and then what they
 -- write.
 abbrev pub IsFirstOptionFault : DriveText → OptionsFault → Type 0
-IsFirstOptionFault texts faults.Sectors = IsNoNumber texts.sectors
+IsFirstOptionFault texts faults.Sectors = sectors_in texts ≡ None
 IsFirstOptionFault texts faults.Shadow =
-    (IsNoNumber texts.sectors → ⊥) × IsNoNumber texts.shadow
+    (sectors_in texts ≡ None → ⊥) × (shadow_in texts ≡ None)
 IsFirstOptionFault texts (faults.Msid fault) = AreNumbers texts × (decode_of texts.msid ≡ Err fault)
 IsFirstOptionFault texts (faults.Psid fault) =
     AreNumbers texts × IsOk (decode_of texts.msid) × (label_of texts.psid ≡ Err fault)
@@ -135,22 +184,20 @@ IsFirstOptionFault texts faults.Profile =
 IsFirstOptionFault texts faults.NamesOfBase = IsFaultUnder texts faults.NamesOfBase
 IsFirstOptionFault texts faults.DatastoreOfBase = IsFaultUnder texts faults.DatastoreOfBase
 IsFirstOptionFault texts faults.Datastore = IsFaultUnder texts faults.Datastore
-IsFirstOptionFault texts (faults.NoDrive sectors shadow size) =
-    (config : Config) × WritesConfig texts config
-    × (IsWithinLimits config.sectors config.mbr_sectors config.msid → ⊥)
-    × (sectors ≡ config.sectors) × (shadow ≡ config.mbr_sectors) × (size ≡ length config.msid)
+IsFirstOptionFault texts faults.EmptyName = IsFaultUnder texts faults.EmptyName
+IsFirstOptionFault texts (faults.NoDrive profile sectors shadow size) =
+    (config : Config) × WritesConfig texts config × (HasDriveSizes config → ⊥)
+    × (profile ≡ config.profile) × (sectors ≡ config.sectors) × (shadow ≡ config.mbr_sectors)
+    × (size ≡ length config.msid)
 IsFirstOptionFault texts faults.Names =
-    (config : Config) × WritesConfig texts config
-    × IsWithinLimits config.sectors config.mbr_sectors config.msid
+    (config : Config) × WritesConfig texts config × HasDriveSizes config
     × (AreNames config.serial config.model → ⊥)
 IsFirstOptionFault texts (faults.Label size) =
-    (config : Config) × WritesConfig texts config
-    × IsWithinLimits config.sectors config.mbr_sectors config.msid
+    (config : Config) × WritesConfig texts config × HasDriveSizes config
     × AreNames config.serial config.model × (IsLabel config.psid → ⊥)
     × (size ≡ length config.psid)
-IsFirstOptionFault texts (faults.LargeDatastore datastore) =
-    (config : Config) × WritesConfig texts config
-    × IsWithinLimits config.sectors config.mbr_sectors config.msid
+IsFirstOptionFault texts (faults.DatastoreSize datastore) =
+    (config : Config) × WritesConfig texts config × HasDriveSizes config
     × AreNames config.serial config.model × IsLabel config.psid
-    × (config.datastore ≤ most_datastore_bytes → ⊥) × (datastore ≡ config.datastore)
+    × (HasStoreSize config → ⊥) × (datastore ≡ config.datastore)
 IsFirstOptionFault texts faults.OutOfMemory = AreNumbers texts

@@ -1,8 +1,8 @@
 //! What a drive is opened with.
 
 ghost use Rattle.std.specs.Prelude.{◌≡◌};
-ghost use Rattle.std.specs.Prelude.{IfOk, IfErr, Ok, Err, ◌≢◌};
-ghost use Rattle.tool.specs.OptionTexts.{profile_named, text_or, label_of, store_of};
+ghost use Rattle.std.specs.Prelude.{IfOk, IfErr, Ok, Err, ◌≢◌, option_map};
+ghost use Rattle.tool.specs.OptionTexts.{profile_named, new_sectors, new_shadow, size_or, text_or, label_of, is_empty_text};
 ghost use Rattle.hex.specs.Hex.{decode_of};
 ghost use Rattle.hex.specs.declared.error.FromHexError.{FromHexError};
 ghost use Rattle.hex.specs.declared.error.FromHexError.TheVariants as hex_faults;
@@ -13,7 +13,8 @@ use script_lines::number_up_to;
 use sp_cells::DriveConfig;
 use sp_cells::config::{NEW_MODEL, NEW_PSID, NEW_SERIAL, new_datastore_of};
 use sp_cells::limits::{
-    MOST_DATASTORE_BYTES, MOST_MBR_SECTORS, MOST_MODEL_BYTES, MOST_PIN_BYTES, MOST_SERIAL_BYTES,
+    LEAST_OPAL_DATASTORE_BYTES, MOST_DATASTORE_BYTES, MOST_MBR_SECTORS, MOST_MODEL_BYTES,
+    MOST_PIN_BYTES, MOST_SERIAL_BYTES, OPAL_MBR_SECTORS,
 };
 use std::alloc::Global;
 use std::error::Error;
@@ -34,8 +35,11 @@ pub enum OptionsFault {
     /// A drive of the profile `Base` has no DataStore.
     DatastoreOfBase,
     Datastore,
+    /// The serial number or the model number is given, and has no character.
+    EmptyName,
     /// The values are not within the limits of a configuration.
     NoDrive {
+        profile: Profile,
         sectors: u64,
         shadow: u64,
         msid: usize,
@@ -46,8 +50,8 @@ pub enum OptionsFault {
     Label {
         psid: usize,
     },
-    /// DataStore has too many bytes.
-    LargeDatastore {
+    /// DataStore has too many bytes, or too few for the profile.
+    DatastoreSize {
         datastore: u64,
     },
     OutOfMemory,
@@ -56,6 +60,7 @@ pub enum OptionsFault {
 /// Writes which value is beyond the limits of a configuration.
 fn write_limit<W: fmt::Write>(
     f: &mut fmt::Formatter<W>,
+    profile: Profile,
     sectors: u64,
     shadow: u64,
     msid: usize,
@@ -78,9 +83,33 @@ fn write_limit<W: fmt::Write>(
             "a shadow of {shadow} sectors is larger than the drive of {sectors}"
         );
     }
+    if profile == Profile::Opal && shadow != OPAL_MBR_SECTORS {
+        return write!(
+            f,
+            "--shadow {shadow}: the shadow of an Opal drive has {OPAL_MBR_SECTORS} sectors"
+        );
+    }
     write!(
         f,
         "--msid: an MSID has 1 to {MOST_PIN_BYTES} bytes, not {msid}"
+    )
+}
+
+/// Writes which limit the bytes of DataStore are beyond.
+fn write_store_limit<W: fmt::Write>(
+    f: &mut fmt::Formatter<W>,
+    datastore: u64,
+) -> fmt::Result {
+    if datastore > MOST_DATASTORE_BYTES {
+        return write!(
+            f,
+            "--datastore {datastore}: a DataStore has at most {MOST_DATASTORE_BYTES} bytes"
+        );
+    }
+    write!(
+        f,
+        "--datastore {datastore}: the DataStore of an Opal drive has at least \
+         {LEAST_OPAL_DATASTORE_BYTES} bytes"
     )
 }
 
@@ -91,19 +120,27 @@ impl fmt::Display for OptionsFault {
             OptionsFault::Shadow => f.write_str("--shadow is no decimal number of 64 bits"),
             OptionsFault::Msid(fault) => write!(f, "--msid is not written in hex: {fault}"),
             OptionsFault::Psid(fault) => write!(f, "--psid is not written in hex: {fault}"),
-            OptionsFault::Profile => f.write_str("--profile is neither base nor field"),
-            OptionsFault::NamesOfBase => {
-                f.write_str("--serial, --model and --psid want --profile field")
+            OptionsFault::Profile => {
+                f.write_str("--profile is none of base, field and opal")
             }
-            OptionsFault::DatastoreOfBase => f.write_str("--datastore wants --profile field"),
+            OptionsFault::NamesOfBase => {
+                f.write_str("--serial, --model and --psid want --profile field or opal")
+            }
+            OptionsFault::DatastoreOfBase => {
+                f.write_str("--datastore wants --profile field or opal")
+            }
             OptionsFault::Datastore => {
                 f.write_str("--datastore is no decimal number of 64 bits")
             }
+            OptionsFault::EmptyName => {
+                f.write_str("--serial and --model have one character at least")
+            }
             OptionsFault::NoDrive {
+                profile,
                 sectors,
                 shadow,
                 msid,
-            } => write_limit(f, sectors, shadow, msid),
+            } => write_limit(f, profile, sectors, shadow, msid),
             OptionsFault::Names => write!(
                 f,
                 "--serial has at most {MOST_SERIAL_BYTES} and --model at most {MOST_MODEL_BYTES} \
@@ -115,10 +152,7 @@ impl fmt::Display for OptionsFault {
                     "--psid: a PSID has 1 to {MOST_PIN_BYTES} bytes, not {psid}"
                 )
             }
-            OptionsFault::LargeDatastore { datastore } => write!(
-                f,
-                "--datastore {datastore}: a DataStore has at most {MOST_DATASTORE_BYTES} bytes"
-            ),
+            OptionsFault::DatastoreSize { datastore } => write_store_limit(f, datastore),
             OptionsFault::OutOfMemory => f.write_str("out of memory"),
         }
     }
@@ -126,19 +160,28 @@ impl fmt::Display for OptionsFault {
 
 impl Error for OptionsFault {}
 
-/// The options that say which drive, as they are written. An empty serial number, model number, PSID or size of
-/// DataStore stands for that of a drive that is given none.
+/// The options that say which drive, as they are written; `None` for one that is left out, which then is as in a new
+/// drive of the profile.
 #[derive(Clone, Copy)]
 pub struct DriveTexts<'a> {
-    pub sectors: &'a str,
-    pub shadow: &'a str,
+    pub sectors: Option<&'a str>,
+    pub shadow: Option<&'a str>,
     pub msid: &'a str,
     pub profile: &'a str,
-    pub serial: &'a str,
-    pub model: &'a str,
-    pub psid: &'a str,
-    pub datastore: &'a str,
+    pub serial: Option<&'a str>,
+    pub model: Option<&'a str>,
+    pub psid: Option<&'a str>,
+    pub datastore: Option<&'a str>,
 }
+
+/// The sectors of a drive of the profiles `Base` and `Field` that is told none.
+const NEW_SECTORS: u64 = 1000;
+
+/// The sectors of its shadow.
+const NEW_MBR_SECTORS: u64 = 8;
+
+/// The sectors of a drive of the profile `Opal` that is told none: twice its shadow.
+const NEW_OPAL_SECTORS: u64 = 524_288;
 
 /// The profile of a name.
 fn profile_named(name: &[u8]) -> Option<Profile>
@@ -148,38 +191,73 @@ fn profile_named(name: &[u8]) -> Option<Profile>
         Some(Profile::Base)
     } else if name == b"field".as_slice() {
         Some(Profile::Field)
+    } else if name == b"opal".as_slice() {
+        Some(Profile::Opal)
     } else {
         None
     }
 }
 
-/// A text, or another one where it is empty.
-fn text_or<'a>(text: &'a [u8], other: &'a [u8]) -> &'a [u8]
-    ensures { result.now ≡ text_or text.now other.now }
+/// The sectors of a drive that is told none.
+fn new_sectors_of(profile: Option<Profile>) -> u64
+    ensures { result ≡ new_sectors profile }
 {
-    if text.is_empty() { other } else { text }
+    match profile {
+        None | Some(Profile::Base) | Some(Profile::Field) => NEW_SECTORS,
+        Some(Profile::Opal) => NEW_OPAL_SECTORS,
+    }
 }
 
-/// The bytes that the hex writes; where it is empty, the PSID of a drive that is given none.
-fn label_in(alloc: Global, text: &[u8]) -> Result<Vec<u8>, FromHexError>
-    ensures read { IfOk result (λ psid. label_of text.now ≡ Ok psid.items) }
+/// The sectors of the shadow of a drive that is told none.
+fn new_shadow_of(profile: Option<Profile>) -> u64
+    ensures { result ≡ new_shadow profile }
+{
+    match profile {
+        None | Some(Profile::Base) | Some(Profile::Field) => NEW_MBR_SECTORS,
+        Some(Profile::Opal) => OPAL_MBR_SECTORS,
+    }
+}
+
+/// The number that a text writes, or another one where there is no text.
+fn size_or(other: u64, text: Option<&str>) -> Option<u64>
+    ensures { result ≡ size_or other (option_map (λ s. s.now) text.entry) }
+{
+    match text {
+        None => Some(other),
+        Some(text) => number_up_to(u64::MAX, text.as_bytes()),
+    }
+}
+
+/// The bytes of a text, or others where there is no text.
+fn text_or<'a>(other: &'a [u8], text: Option<&'a str>) -> &'a [u8]
+    ensures { result.now ≡ text_or other.now (option_map (λ s. s.now) text.entry) }
+{
+    match text {
+        None => other,
+        Some(text) => text.as_bytes(),
+    }
+}
+
+/// Whether a text is given, and is empty.
+fn is_empty_text(text: Option<&str>) -> bool
+    ensures { result ≡ is_empty_text (option_map (λ s. s.now) text.entry) }
+{
+    match text {
+        None => false,
+        Some(text) => text.is_empty(),
+    }
+}
+
+/// The bytes that the hex writes; where there is none, the PSID of a drive that is given none.
+fn label_in(alloc: Global, text: Option<&str>) -> Result<Vec<u8>, FromHexError>
+    ensures read { IfOk result (λ psid. label_of (option_map (λ s. s.now) text.entry) ≡ Ok psid.items) }
     ensures fault { IfErr result (λ fault. fault ≢ hex_faults.OutOfMemory
-        → label_of text.now ≡ Err fault) }
+        → label_of (option_map (λ s. s.now) text.entry) ≡ Err fault) }
 {
-    if text.is_empty() {
-        return Ok(NEW_PSID.to_vec(alloc)?);
+    match text {
+        None => Ok(NEW_PSID.to_vec(alloc)?),
+        Some(text) => hex::decode(alloc, text.as_bytes()),
     }
-    hex::decode(alloc, text)
-}
-
-/// The bytes of DataStore that the number says; where there is none, those of a drive that is told none.
-fn store_in(profile: Profile, text: &[u8]) -> Option<u64>
-    ensures { result ≡ store_of profile text.now }
-{
-    if text.is_empty() {
-        return Some(new_datastore_of(profile));
-    }
-    number_up_to(u64::MAX, text)
 }
 
 /// What a drive is opened with: within the limits of a configuration.
@@ -189,17 +267,14 @@ pub struct Options {
 }
 
 impl Model for Options {
-    ghost use Rattle.std.specs.Prelude.{◌≤◌};
-    ghost use Rattle.sp_cells.specs.Config.{Config, IsWithinLimits, AreNames, IsLabel};
-    ghost use Rattle.sp_cells.specs.Limits.{most_datastore_bytes};
+    ghost use Rattle.sp_cells.specs.Config.{Config};
+    ghost use Rattle.tool.specs.OptionTexts.{IsOfDrive};
 
     ghost Value = { Config };
 
     ghost view = { λ o. o.config };
 
-    ghost invariant = { λ o. IsWithinLimits o.config.sectors o.config.mbr_sectors o.config.msid
-        × AreNames o.config.serial o.config.model × IsLabel o.config.psid
-        × (o.config.datastore ≤ most_datastore_bytes) };
+    ghost invariant = { λ o. IsOfDrive o.config };
 }
 
 impl Options {
@@ -208,21 +283,19 @@ impl Options {
 
     /// Reads the values as they are written on the command line: two decimal numbers, hex, the name of a profile, two
     /// names, hex, and a decimal number. The first fault is told: `Sectors`, `Shadow`, `Msid`, `Psid`, `Profile`,
-    /// `NamesOfBase`, `DatastoreOfBase`, `Datastore`, `NoDrive`, `Names`, `Label`, `LargeDatastore`.
+    /// `NamesOfBase`, `DatastoreOfBase`, `Datastore`, `EmptyName`, `NoDrive`, `Names`, `Label`, `DatastoreSize`.
     pub fn parse(alloc: Global, texts: &DriveTexts<'_>) -> Result<Options, OptionsFault>
         ensures read { IfOk result (λ options. WritesConfig (drive_text texts.now) options) }
         ensures fault { IfErr result (λ fault. IsFirstOptionFault (drive_text texts.now) fault) }
     {
-        let sectors = number_up_to(u64::MAX, texts.sectors.as_bytes()).ok_or(
-            OptionsFault::Sectors,
-        )?;
-        let shadow = number_up_to(u64::MAX, texts.shadow.as_bytes()).ok_or(OptionsFault::Shadow)?;
+        let sectors = texts.sectors_in().ok_or(OptionsFault::Sectors)?;
+        let shadow = texts.shadow_in().ok_or(OptionsFault::Shadow)?;
         let msid = match hex::decode(alloc, texts.msid.as_bytes()) {
             Ok(msid) => msid,
             Err(FromHexError::OutOfMemory) => return Err(OptionsFault::OutOfMemory),
             Err(fault) => return Err(OptionsFault::Msid(fault)),
         };
-        let psid = match label_in(alloc, texts.psid.as_bytes()) {
+        let psid = match label_in(alloc, texts.psid) {
             Ok(psid) => psid,
             Err(FromHexError::OutOfMemory) => return Err(OptionsFault::OutOfMemory),
             Err(fault) => return Err(OptionsFault::Psid(fault)),
@@ -231,13 +304,14 @@ impl Options {
         let datastore = texts.store_for(profile)?;
         let Some(config) = DriveConfig::of_profile(profile, sectors, shadow, &msid) else {
             return Err(OptionsFault::NoDrive {
+                profile,
                 sectors,
                 shadow,
                 msid: msid.len(),
             });
         };
-        let serial = text_or(texts.serial.as_bytes(), &NEW_SERIAL);
-        let model = text_or(texts.model.as_bytes(), &NEW_MODEL);
+        let serial = text_or(&NEW_SERIAL, texts.serial);
+        let model = text_or(&NEW_MODEL, texts.model);
         let Some(config) = config.with_names(serial, model) else {
             return Err(OptionsFault::Names);
         };
@@ -246,7 +320,7 @@ impl Options {
         };
         match config.with_datastore(datastore) {
             Some(config) => Ok(Options { config }),
-            None => Err(OptionsFault::LargeDatastore { datastore }),
+            None => Err(OptionsFault::DatastoreSize { datastore }),
         }
     }
 
@@ -274,13 +348,33 @@ impl Options {
 impl DriveTexts<'_> {
     ghost use Rattle.std.specs.Prelude.{◌≡◌};
     ghost use Rattle.std.specs.Prelude.{IfOk, IfErr};
-    ghost use Rattle.tool.specs.OptionTexts.{drive_text, has_names, may_have_names, may_have_store, IsStore, IsStoreFault};
+    ghost use Rattle.tool.specs.OptionTexts.{drive_text, sectors_in, shadow_in, has_names, may_have_names, may_have_store, has_empty_name, IsStore, IsStoreFault};
+
+    /// The sectors that the texts write.
+    fn sectors_in(&self) -> Option<u64>
+        ensures { result ≡ sectors_in (drive_text self.now) }
+    {
+        size_or(
+            new_sectors_of(profile_named(self.profile.as_bytes())),
+            self.sectors,
+        )
+    }
+
+    /// The sectors of the shadow that the texts write.
+    fn shadow_in(&self) -> Option<u64>
+        ensures { result ≡ shadow_in (drive_text self.now) }
+    {
+        size_or(
+            new_shadow_of(profile_named(self.profile.as_bytes())),
+            self.shadow,
+        )
+    }
 
     /// Whether a serial number, a model number or a PSID is given.
     fn has_names(&self) -> bool
         ensures { result ≡ has_names (drive_text self.now) }
     {
-        !self.serial.is_empty() || !self.model.is_empty() || !self.psid.is_empty()
+        self.serial.is_some() || self.model.is_some() || self.psid.is_some()
     }
 
     /// Whether a drive of this profile may have the names that are given.
@@ -289,17 +383,25 @@ impl DriveTexts<'_> {
     {
         match profile {
             Profile::Base => !self.has_names(),
-            Profile::Field => true,
+            Profile::Field | Profile::Opal => true,
         }
     }
+
     /// Whether a drive of this profile may have the DataStore whose size is given.
     fn may_have_store(&self, profile: Profile) -> bool
         ensures { result ≡ may_have_store profile (drive_text self.now) }
     {
         match profile {
-            Profile::Base => self.datastore.is_empty(),
-            Profile::Field => true,
+            Profile::Base => self.datastore.is_none(),
+            Profile::Field | Profile::Opal => true,
         }
+    }
+
+    /// Whether a name is given that has no character.
+    fn has_empty_name(&self) -> bool
+        ensures { result ≡ has_empty_name (drive_text self.now) }
+    {
+        is_empty_text(self.serial) || is_empty_text(self.model)
     }
 
     /// The bytes of DataStore, of a drive of this profile, that may have what is given.
@@ -313,7 +415,12 @@ impl DriveTexts<'_> {
         if !self.may_have_store(profile) {
             return Err(OptionsFault::DatastoreOfBase);
         }
-        let datastore = store_in(profile, self.datastore.as_bytes());
-        datastore.ok_or(OptionsFault::Datastore)
+        let Some(datastore) = size_or(new_datastore_of(profile), self.datastore) else {
+            return Err(OptionsFault::Datastore);
+        };
+        if self.has_empty_name() {
+            return Err(OptionsFault::EmptyName);
+        }
+        Ok(datastore)
     }
 }

@@ -75,19 +75,19 @@ pub enum Error {
     Malformed,
     /// A drive has 1 to 2^48 sectors.
     Sectors,
-    /// A shadow MBR has at most 262,144 sectors, and at most all of the drive.
+    /// A shadow MBR has at most 262,144 sectors, with the profile opal just so many, and at most all of the drive.
     Shadow,
     /// An MSID has 1 to 32 bytes.
     Msid,
     /// There is no such profile.
     Profile,
-    /// A serial number has at most 20 characters of printable ASCII, and only with the profile field.
+    /// A serial number has at most 20 characters of printable ASCII, and only with the profile field or opal.
     Serial,
-    /// A model number has at most 40 characters of printable ASCII, and only with the profile field.
+    /// A model number has at most 40 characters of printable ASCII, and only with the profile field or opal.
     Model,
-    /// A PSID has at most 32 bytes, and only with the profile field.
+    /// A PSID has at most 32 bytes, and only with the profile field or opal.
     Psid,
-    /// A DataStore has at most 16,777,216 bytes, and only with the profile field.
+    /// A DataStore has at most 16,777,216 bytes, with the profile opal at least 10,485,760, and base has none.
     Datastore,
     /// Two rows are of one range.
     RangeTwice,
@@ -190,17 +190,21 @@ impl fmt::Display for Error {
             Error::Beyond => "a range ends beyond the drive, or the global range has a place",
             Error::Malformed => "bytes are not what they are to be",
             Error::Sectors => "a drive has 1 to 2^48 sectors",
-            Error::Shadow => "a shadow MBR has at most 262,144 sectors, and at most all of the drive",
+            Error::Shadow => {
+                "a shadow MBR has at most 262,144 sectors, with the profile opal just so many, and at most all of the drive"
+            }
             Error::Msid => "an MSID has 1 to 32 bytes",
             Error::Profile => "there is no such profile",
             Error::Serial => {
-                "a serial number has at most 20 characters of printable ASCII, and only with the profile field"
+                "a serial number has at most 20 characters of printable ASCII, and only with the profile field or opal"
             }
             Error::Model => {
-                "a model number has at most 40 characters of printable ASCII, and only with the profile field"
+                "a model number has at most 40 characters of printable ASCII, and only with the profile field or opal"
             }
-            Error::Psid => "a PSID has at most 32 bytes, and only with the profile field",
-            Error::Datastore => "a DataStore has at most 16,777,216 bytes, and only with the profile field",
+            Error::Psid => "a PSID has at most 32 bytes, and only with the profile field or opal",
+            Error::Datastore => {
+                "a DataStore has at most 16,777,216 bytes, with the profile opal at least 10,485,760, and base has none"
+            }
             Error::RangeTwice => "two rows are of one range",
             Error::VersionDiffers => "the crate and the library are of versions that do not fit",
             Error::Shared => "a buffer that is written has a byte in common with another one",
@@ -316,26 +320,66 @@ pub struct Config<'a> {
     pub msid: &'a [u8],
     /// With some the Locking SP is active; with none the drive is as it leaves the factory.
     pub ranges: &'a [Range],
-    /// Whether the drive is of the profile `field`, with these names; an empty one is that of a drive that is given none.
-    pub field: Option<Field<'a>>,
+    /// How much the drive knows.
+    pub profile: Profile,
+    /// What a drive of the profile `base` is not given; what is empty or none is as in a new drive of the profile.
+    pub label: Label<'a>,
 }
 
-/// What only a drive of the profile `field` has.
+/// How much a drive knows.
+#[derive(Clone, Copy, Debug, Default, PartialEq, Eq)]
+pub enum Profile {
+    /// What the standards ask for.
+    #[default]
+    Base,
+    /// And what unmodified drivers ask for.
+    Field,
+    /// And the sizes that Opal SSC 2.01 wants.
+    Opal,
+}
+
+impl Profile {
+    fn number(self) -> u8 {
+        match self {
+            Profile::Base => 0,
+            Profile::Field => 1,
+            Profile::Opal => 2,
+        }
+    }
+
+    fn numbered(number: u8) -> Profile {
+        match number {
+            0 => Profile::Base,
+            1 => Profile::Field,
+            _ => Profile::Opal,
+        }
+    }
+}
+
+/// What a drive of the profile `field` or `opal` tells of itself, its PIN and its DataStore.
 #[derive(Clone, Copy, Debug, Default)]
-pub struct Field<'a> {
+pub struct Label<'a> {
     /// At most 20 characters of printable ASCII.
     pub serial: &'a str,
     /// At most 40.
     pub model: &'a str,
     /// The PIN on the label: at most 32 bytes.
     pub psid: &'a [u8],
-    /// How many bytes DataStore has: at most 16,777,216.
+    /// How many bytes DataStore has: at most 16,777,216, with `opal` at least 10,485,760.
     pub datastore: Option<u64>,
 }
 
 impl Default for Config<'_> {
     fn default() -> Self {
-        Config { sectors: 1000, shadow: 8, msid: b"OPALMSID", ranges: &[], field: None }
+        Config { sectors: 1000, shadow: 8, msid: b"OPALMSID", ranges: &[], profile: Profile::Base, label: Label::default() }
+    }
+}
+
+impl Config<'_> {
+    /// A drive of the profile `opal`: 524,288 sectors, of which 262,144 can be shadowed, and a DataStore of 10,485,760 bytes.
+    /// What nothing has written takes no memory.
+    pub fn opal() -> Self {
+        Config { sectors: 524_288, shadow: 262_144, profile: Profile::Opal, ..Config::default() }
     }
 }
 
@@ -376,8 +420,8 @@ pub struct About {
     pub sectors: u64,
     /// Those of them that the shadow MBR can have.
     pub shadow: u64,
-    /// Whether it is of the profile `field`.
-    pub field: bool,
+    /// How much it knows.
+    pub profile: Profile,
 }
 
 /// How a queue has failed: what log page 10h tells.
@@ -528,12 +572,12 @@ impl Object {
         if unsafe { raw::opal_raw_version() } >> 8 != raw::VERSION >> 8 {
             return Err(Error::VersionDiffers);
         }
-        let field = config.field.unwrap_or_default();
+        let label = config.label;
         let size = raw::Size {
             sectors: config.sectors,
             shadow: config.shadow,
-            datastore: field.datastore.map_or(u64::MAX, |bytes| bytes.min(u64::MAX - 1)),
-            profile: config.field.is_some().into(),
+            datastore: label.datastore.map_or(u64::MAX, |bytes| bytes.min(u64::MAX - 1)),
+            profile: config.profile.number().into(),
         };
         let cells: Vec<raw::RangeCells> = config.ranges.iter().map(cells_of).collect();
         let mut object = Object { handle: raw::Handle { mark: 0, place: null_mut() } };
@@ -544,12 +588,12 @@ impl Object {
                 size,
                 config.msid.as_ptr(),
                 config.msid.len(),
-                field.serial.as_ptr(),
-                field.serial.len(),
-                field.model.as_ptr(),
-                field.model.len(),
-                field.psid.as_ptr(),
-                field.psid.len(),
+                label.serial.as_ptr(),
+                label.serial.len(),
+                label.model.as_ptr(),
+                label.model.len(),
+                label.psid.as_ptr(),
+                label.psid.len(),
                 cells.as_ptr(),
                 cells.len(),
             )
@@ -562,7 +606,7 @@ impl Object {
         // SAFETY: the handle is this object's own.
         let told = unsafe { raw::opal_raw_about(&mut self.handle) };
         Error::check(told.code)?;
-        Ok(About { sectors: told.sectors, shadow: told.shadow, field: told.profile == 1 })
+        Ok(About { sectors: told.sectors, shadow: told.shadow, profile: Profile::numbered(told.profile) })
     }
 
     fn remedy(&mut self, place: usize) -> Result<String, Error> {

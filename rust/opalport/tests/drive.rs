@@ -2,7 +2,7 @@
 
 use opalport::{
     command_fis, decoded_text, frame, opened, receive_fis, send_fis, tokens_text, Answer, Attempt, Command, Config, Denied,
-    Drive, Error, Field, Kind, Range, Reason, Sp,
+    Drive, Error, Kind, Label, Profile, Range, Reason, Sp,
 };
 
 const LOCKED: Range = Range {
@@ -96,16 +96,19 @@ fn what_a_caller_gets_wrong_is_an_error() {
     assert_eq!(command_fis(Command::ReadDma { lba: 1 << 48, count: 1 }), Err(Error::Number));
     assert_eq!(command_fis(Command::ReadQueued { lba: 0, count: 1, tag: 32 }), Err(Error::Tag));
     assert_eq!(opened(&[0; 56]), Err(Error::Malformed));
-    let field = |field| Config { field: Some(field), ..Config::default() };
+    let field = |label| Config { profile: Profile::Field, label, ..Config::default() };
     for (config, error) in [
         (Config { sectors: 0, ..Config::default() }, Error::Sectors),
         (Config { shadow: 1001, ..Config::default() }, Error::Shadow),
         (Config { msid: &[], ..Config::default() }, Error::Msid),
         (Config { ranges: &[LOCKED, LOCKED], ..Config::default() }, Error::RangeTwice),
-        (field(Field { serial: "é", ..Field::default() }), Error::Serial),
-        (field(Field { model: "x".repeat(41).as_str(), ..Field::default() }), Error::Model),
-        (field(Field { psid: &[0; 33], ..Field::default() }), Error::Psid),
-        (field(Field { datastore: Some(1 << 24 | 1), ..Field::default() }), Error::Datastore),
+        (field(Label { serial: "é", ..Label::default() }), Error::Serial),
+        (field(Label { model: "x".repeat(41).as_str(), ..Label::default() }), Error::Model),
+        (field(Label { psid: &[0; 33], ..Label::default() }), Error::Psid),
+        (field(Label { datastore: Some(1 << 24 | 1), ..Label::default() }), Error::Datastore),
+        (Config { label: Label { serial: "1", ..Label::default() }, ..Config::default() }, Error::Serial),
+        (Config { shadow: 262_143, ..Config::opal() }, Error::Shadow),
+        (Config { label: Label { datastore: Some(10_485_759), ..Label::default() }, ..Config::opal() }, Error::Datastore),
     ] {
         assert_eq!(Drive::new(&config).err(), Some(error));
     }
@@ -114,8 +117,8 @@ fn what_a_caller_gets_wrong_is_an_error() {
 
 #[test]
 fn a_field_drive_tells_its_names() {
-    let field = Some(Field { serial: "12345", ..Field::default() });
-    let mut drive = Drive::new(&Config { field, ..Config::default() }).unwrap();
+    let label = Label { serial: "12345", ..Label::default() };
+    let mut drive = Drive::new(&Config { profile: Profile::Field, label, ..Config::default() }).unwrap();
     let answer = give(&mut drive, Command::Identify, &[]);
     assert!(decoded_text(Kind::Identify, &answer.data).unwrap().contains("SerialNumber \"12345"));
 }
@@ -136,7 +139,9 @@ fn data_go_into_a_buffer() {
 #[test]
 fn what_is_made_is_told() {
     let about = locked().about().unwrap();
-    assert_eq!((about.sectors, about.shadow, about.field), (1000, 8, false));
+    assert_eq!((about.sectors, about.shadow, about.profile), (1000, 8, Profile::Base));
+    let about = Drive::new(&Config::opal()).unwrap().about().unwrap();
+    assert_eq!((about.sectors, about.shadow, about.profile), (524_288, 262_144, Profile::Opal));
     let mut drive = locked();
     give(&mut drive, Command::WriteDma { lba: 99, count: 1 }, &[7; 512]);
     assert_eq!((drive.media(99), drive.media(100), drive.media(1000)), (Ok(vec![7; 512]), Ok(vec![0; 512]), Err(Error::Number)));

@@ -39,7 +39,7 @@ pub enum CallError {
     Malformed,
     /// A drive has 1 to 2^48 sectors.
     Sectors,
-    /// The shadow MBR has at most 262,144 sectors, and at most all of the drive.
+    /// The shadow MBR has at most 262,144 sectors, of a drive of the profile `Opal` just so many, and at most all of the drive.
     Shadow,
     /// The MSID has 1 to 32 bytes.
     Msid,
@@ -51,7 +51,7 @@ pub enum CallError {
     Model,
     /// The PIN on the label has at most 32 bytes.
     Psid,
-    /// DataStore has at most 16,777,216 bytes.
+    /// DataStore has at most 16,777,216 bytes, and of a drive of the profile `Opal` at least 10,485,760.
     Datastore,
     /// Two rows are of one range.
     RangeTwice,

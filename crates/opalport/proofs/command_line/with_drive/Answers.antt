@@ -7,12 +7,12 @@ use Rattle.opalport.proofs.command_line.with_drive.Goals as goal
 pub returns : goal.returns
 returns c =
     let one = c.in_ok-c.ensures in
-    let two = c.in_ok-c-2.ensures ∙ ap (λ (a : App). with_rule a (option_rule (codes "shadow") (codes "8"))) one in
+    let two = c.in_ok-c-2.ensures ∙ ap (λ (a : App). with_rule a (free_rule (codes "shadow"))) one in
     let three = c.in_ok-c-3.ensures ∙ ap (λ (a : App). with_rule a (option_rule (codes "msid") (codes "4f50414c4d534944"))) two in
     let four = c.in_ok-c-4.ensures ∙ ap (λ (a : App). with_rule a (option_rule (codes "profile") (codes "base"))) three in
     let five = c.in_ok-c-5.ensures ∙ ap (λ (a : App). with_rule a (free_rule (codes "serial"))) four in
     let six = c.in_ok-c-6.ensures ∙ ap (λ (a : App). with_rule a (free_rule (codes "model"))) five in
     let seven = c.in_ok-c-7.ensures ∙ ap (λ (a : App). with_rule a (free_rule (codes "psid"))) six in
-    IfOk-weaker c.with_free_option-4.result _ _
+    IfOk-weaker c.with_free_option-6.result _ _
     (λ command is. is ∙ ap (λ (a : App). with_rule a (free_rule (codes "datastore"))) seven)
-    c.with_free_option-4.ensures
+    c.with_free_option-6.ensures

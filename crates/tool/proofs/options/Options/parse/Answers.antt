@@ -1,4 +1,4 @@
-use Rattle.std.proofs.Common.{rules, refl}
+use Rattle.std.proofs.Common.{rules, refl, option_map}
 use Rattle.sp_cells.specs.Config.{new_serial, new_model}
 use Rattle.tool.specs.OptionTexts.{text_or}
 use Rattle.tool.proofs.options.Options.parse.Goals as goal
@@ -10,8 +10,8 @@ returns-in_default-clause-fault c = (
     mbr_sectors = c.in_ok-shadow.shadow;
     msid = c.in-Ok.msid.items;
     profile = c.in_ok-profile.profile;
-    serial = text_or c.args.texts.now.serial.now new_serial;
-    model = text_or c.args.texts.now.model.now new_model;
+    serial = text_or new_serial (option_map (λ s. s.now) c.args.texts.now.serial);
+    model = text_or new_model (option_map (λ s. s.now) c.args.texts.now.model);
     psid = c.in-Ok-label_in.psid.items;
     datastore = c.in_ok-datastore.datastore;
   },
@@ -28,6 +28,7 @@ returns-in_default-clause-fault c = (
   search rules,
   refl,
   refl,
+  refl,
   search rules,
 )
 
@@ -38,8 +39,8 @@ returns-in_default-with_names-clause-fault c = (
     mbr_sectors = c.in_ok-shadow.shadow;
     msid = c.in-Ok.msid.items;
     profile = c.in_ok-profile.profile;
-    serial = text_or c.args.texts.now.serial.now new_serial;
-    model = text_or c.args.texts.now.model.now new_model;
+    serial = text_or new_serial (option_map (λ s. s.now) c.args.texts.now.serial);
+    model = text_or new_model (option_map (λ s. s.now) c.args.texts.now.model);
     psid = c.in-Ok-label_in.psid.items;
     datastore = c.in_ok-datastore.datastore;
   },
@@ -64,8 +65,8 @@ returns-in_default-with_psid-clause-fault c = (
     mbr_sectors = c.in_ok-shadow.shadow;
     msid = c.in-Ok.msid.items;
     profile = c.in_ok-profile.profile;
-    serial = text_or c.args.texts.now.serial.now new_serial;
-    model = text_or c.args.texts.now.model.now new_model;
+    serial = text_or new_serial (option_map (λ s. s.now) c.args.texts.now.serial);
+    model = text_or new_model (option_map (λ s. s.now) c.args.texts.now.model);
     psid = c.in-Ok-label_in.psid.items;
     datastore = c.in_ok-datastore.datastore;
   },
@@ -92,8 +93,8 @@ returns-clause-fault c = (
     mbr_sectors = c.in_ok-shadow.shadow;
     msid = c.in-Ok.msid.items;
     profile = c.in_ok-profile.profile;
-    serial = text_or c.args.texts.now.serial.now new_serial;
-    model = text_or c.args.texts.now.model.now new_model;
+    serial = text_or new_serial (option_map (λ s. s.now) c.args.texts.now.serial);
+    model = text_or new_model (option_map (λ s. s.now) c.args.texts.now.model);
     psid = c.in-Ok-label_in.psid.items;
     datastore = c.in_ok-datastore.datastore;
   },
