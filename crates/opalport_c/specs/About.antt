@@ -1,7 +1,7 @@
 -- What a handle has, as numbers: the kind of the object, and what its drive is made with.
 use Rattle.std.specs.Prelude.{◌≡◌, ℕ, Option}
 use Rattle.basics.specs.declared.profile.Profile.{Profile}
-use Rattle.basics.specs.declared.profile.Profile.TheVariants.{Base, Field}
+use Rattle.basics.specs.declared.profile.Profile.TheVariants.{Base, Field, Opal}
 use Rattle.sp_cells.specs.Config.{Config}
 use Rattle.drive.specs.State.{DriveState}
 use Rattle.library_calls.specs.declared.byte_calls.error.CallError.{CallError}
@@ -26,6 +26,7 @@ drive_of (Hba desk) = desk.hba.drive
 abbrev pub profile_number : Profile → ℕ
 profile_number Base = 0
 profile_number Field = 1
+profile_number Opal = 2
 
 abbrev pub refused_about : CallError → About
 refused_about error = record {

@@ -3,7 +3,7 @@ use Rattle.std.specs.Prelude.{◌≡◌, ◌⊎◌, ◌≤◌, ℕ, ◌-◌, ◌
 use Rattle.std.specs.List.{list_all, list_any}
 use Rattle.basics.specs.Addresses.{address_limit}
 use Rattle.basics.specs.declared.profile.Profile.{Profile}
-use Rattle.basics.specs.declared.profile.Profile.TheVariants.{Base, Field}
+use Rattle.basics.specs.declared.profile.Profile.TheVariants.{Base, Field, Opal}
 use Rattle.locking.specs.declared.range.RangeRow.{RangeRow}
 use Rattle.sp_cells.specs.Config.{Config, IsWithinLimits, AreNames, IsLabel, is_printable, config_in, named_config, labelled_config, stored_config, new_serial, new_model, new_psid, new_datastore}
 use Rattle.sp_cells.specs.Limits.{most_mbr_sectors, most_datastore_bytes, most_pin_bytes, most_serial_bytes, most_model_bytes}
@@ -59,6 +59,10 @@ NamesAsked Field size msid serial model psid config = config ≡ stored_config
     (labelled_config (named_config (config_in Field size.sectors size.shadow msid)
     (bytes_or serial new_serial) (bytes_or model new_model)) (bytes_or psid new_psid))
     (store_or Field size.datastore)
+NamesAsked Opal size msid serial model psid config = config ≡ stored_config
+    (labelled_config (named_config (config_in Opal size.sectors size.shadow msid)
+    (bytes_or serial new_serial) (bytes_or model new_model)) (bytes_or psid new_psid))
+    (store_or Opal size.datastore)
 
 abbrev pub ConfigAsked : Size → List ℕ → List ℕ → List ℕ → List ℕ → Config → Type 0
 ConfigAsked size msid serial model psid config = (profile_asked size.profile ≡ Some config.profile)
@@ -81,6 +85,7 @@ abbrev pub FitsProfile : Option Profile → Size → List ℕ → List ℕ → L
 FitsProfile None size msid serial model psid = ⊥
 FitsProfile (Some Base) size msid serial model psid = FitsBase size msid serial model psid
 FitsProfile (Some Field) size msid serial model psid = FitsField size msid serial model psid
+FitsProfile (Some Opal) size msid serial model psid = ⊥
 
 -- Two rows are of one range.
 abbrev pub is_row_of : ℕ → RangeCells → Bool
@@ -109,10 +114,12 @@ has_msid msid = nat_le 1 (length msid) && nat_le (length msid) most_pin_bytes
 abbrev pub takes_name : Profile → ℕ → List ℕ → Bool
 takes_name Base most name = length name == 0
 takes_name Field most name = nat_le (length name) most && list_all is_printable name
+takes_name Opal most name = nat_le (length name) most && list_all is_printable name
 
 abbrev pub takes_label : Profile → List ℕ → Bool
 takes_label Base psid = length psid == 0
 takes_label Field psid = nat_le (length psid) most_pin_bytes
+takes_label Opal psid = nat_le (length psid) most_pin_bytes
 
 -- Which setting is outside its limits, the first in this order: the rows, the profile, the sectors, the shadow, the MSID,
 -- the names, the label. Where it is none of these, it is DataStore.

@@ -18,7 +18,7 @@ pub struct About {
     pub code: u32,
     /// 1 is a drive, 2 a port, 3 a controller.
     pub kind: u8,
-    /// 0 is `Base`, 1 is `Field`.
+    /// 0 is `Base`, 1 is `Field`, 2 is `Opal`.
     pub profile: u8,
     /// The sectors of the drive, or of the drive behind it.
     pub sectors: u64,
@@ -33,6 +33,7 @@ fn profile_number(profile: Profile) -> u8
     match profile {
         Profile::Base => 0,
         Profile::Field => 1,
+        Profile::Opal => 2,
     }
 }
 

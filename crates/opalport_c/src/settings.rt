@@ -68,7 +68,7 @@ fn takes_name(profile: Profile, most: usize, name: &[u8]) -> bool
 {
     match profile {
         Profile::Base => name.is_empty(),
-        Profile::Field => name.len() <= most && are_printable(name),
+        Profile::Field | Profile::Opal => name.len() <= most && are_printable(name),
     }
 }
 
@@ -78,7 +78,7 @@ fn takes_label(profile: Profile, psid: &[u8]) -> bool
 {
     match profile {
         Profile::Base => psid.is_empty(),
-        Profile::Field => psid.len() <= MOST_PIN_BYTES,
+        Profile::Field | Profile::Opal => psid.len() <= MOST_PIN_BYTES,
     }
 }
 

@@ -4,7 +4,7 @@ use Rattle.std.specs.Str.{bytes_eq}
 use Rattle.hex.specs.Hex.{decode_of}
 use Rattle.hex.specs.declared.error.FromHexError.{FromHexError}
 use Rattle.basics.specs.declared.profile.Profile.{Profile}
-use Rattle.basics.specs.declared.profile.Profile.TheVariants.{Base, Field}
+use Rattle.basics.specs.declared.profile.Profile.TheVariants.{Base, Field, Opal}
 use Rattle.sp_cells.specs.Config.{Config, IsWithinLimits, AreNames, IsLabel, new_serial, new_model, new_psid, new_datastore}
 use Rattle.sp_cells.specs.Limits.{most_datastore_bytes}
 use Rattle.script_lines.specs.Numbers.{number_up_to, largest}
@@ -57,6 +57,7 @@ has_names texts = not (length texts.serial == 0)
 abbrev pub may_have_names : Profile → DriveText → Bool
 may_have_names Base texts = not (has_names texts)
 may_have_names Field texts = true
+may_have_names Opal texts = true
 
 -- the bytes of DataStore that a number says, or those of a drive that is told none
 abbrev pub store_of : Profile → List ℕ → Option ℕ
@@ -67,6 +68,7 @@ store_of profile text =
 abbrev pub may_have_store : Profile → DriveText → Bool
 may_have_store Base texts = length texts.datastore == 0
 may_have_store Field texts = true
+may_have_store Opal texts = true
 
 -- what is given beside the profile is the profile's to have, and writes the bytes of DataStore
 pub record IsStore (profile : Profile) (texts : DriveText) (datastore : ℕ) : Type 0 where

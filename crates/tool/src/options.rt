@@ -289,7 +289,7 @@ impl DriveTexts<'_> {
     {
         match profile {
             Profile::Base => !self.has_names(),
-            Profile::Field => true,
+            Profile::Field | Profile::Opal => true,
         }
     }
     /// Whether a drive of this profile may have the DataStore whose size is given.
@@ -298,7 +298,7 @@ impl DriveTexts<'_> {
     {
         match profile {
             Profile::Base => self.datastore.is_empty(),
-            Profile::Field => true,
+            Profile::Field | Profile::Opal => true,
         }
     }
 
