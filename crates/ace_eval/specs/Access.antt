@@ -2,7 +2,8 @@
 use Rattle.std.specs.Prelude.{◌≡◌, ◌==◌, ◌&&◌, List, [], ◌∷◌, ◌++◌, map, drop, Option, None, Some, if◌then◌else◌, option_map}
 use Rattle.arrayvec.specs.ArrayVec.{ArrayVec}
 use Rattle.basics.specs.declared.profile.Profile.{Profile}
-use Rattle.basics.specs.declared.profile.Profile.TheVariants.{Base, Field}
+use Rattle.basics.specs.declared.profile.Profile.TheVariants.{Base, Field, Opal}
+use Rattle.basics.specs.Profiles.{has_field}
 use Rattle.sp_cells.specs.declared.names.Uid.{Uid}
 use Rattle.sp_cells.specs.declared.names.Sp.{Sp}
 use Rattle.sp_cells.specs.declared.names.Sp.TheVariants.{Admin, Locking}
@@ -25,10 +26,9 @@ grant sp object method acl = record { sp = sp; object = object; method = method;
 abbrev pub grants : Sp → List Uid → Uid → List Uid → List Grant
 grants sp objects method acl = map (λ object. grant sp object method acl) objects
 
--- those of a drive of the profile `Field` alone
+-- those that a drive has under the profile `Field`, and under each that has all of it
 abbrev pub of_field : Profile → List Grant → List Grant
-of_field Base gs = []
-of_field Field gs = gs
+of_field profile gs = if has_field profile then gs else []
 
 -- the SPs themselves
 unfoldable pub this_sp_grants : List Grant
@@ -39,6 +39,7 @@ this_sp_grants = grant Admin this_sp authenticate (ace_anybody ∷ [])
 abbrev pub reverters : Profile → List Uid
 reverters Base = ace_sp_sid ∷ []
 reverters Field = ace_sp_sid ∷ ace_sp_psid ∷ []
+reverters Opal = ace_sp_sid ∷ ace_sp_psid ∷ []
 
 -- the Admin SP
 unfoldable pub owner_grants : Profile → List Grant
@@ -99,6 +100,7 @@ unfoldable pub range_get_ace_grants : Profile → List Grant
 range_get_ace_grants Base =
     grants Locking (ace_locking_get_all ∷ []) get (ace_admins ∷ ace_anybody_get_common_name ∷ [])
 range_get_ace_grants Field = settable (map ace_range_get all_ranges)
+range_get_ace_grants Opal = settable (map ace_range_get all_ranges)
 
 unfoldable pub gen_key_ace_grants : List Grant
 gen_key_ace_grants = settable (map ace_key_gen_key all_ranges)
@@ -125,6 +127,9 @@ unfoldable pub range_get_grants : Profile → List Grant
 range_get_grants Base = grants Locking (map range_uid all_ranges) get
     (ace_locking_get_all ∷ ace_anybody_get_common_name ∷ [])
 range_get_grants Field =
+    map (λ n. grant Locking (range_uid n) get
+    (ace_range_get n ∷ ace_anybody_get_common_name ∷ [])) all_ranges
+range_get_grants Opal =
     map (λ n. grant Locking (range_uid n) get
     (ace_range_get n ∷ ace_anybody_get_common_name ∷ [])) all_ranges
 

@@ -31,6 +31,7 @@ rule_words rules.BeyondDrive = codes "the transfer would end behind the last sec
 rule_words rules.Protocol = codes "not security protocol 01h with one block at least"
 rule_words rules.ComId = codes "the drive has no such ComID"
 rule_words rules.ResponseWaits = codes "a response waits on the ComID"
+rule_words rules.LongTransfer = codes "the transfer is longer than a ComPacket may be"
 rule_words rules.SidKept = codes "SID has a PIN of its own, or is blocked already"
 rule_words rules.NoFrame = codes "no frame of this ComID was sent"
 rule_words rules.NoSession = codes "no such session lives on this ComID"

@@ -10,6 +10,6 @@ pub mod text;
 
 pub use addresses::{ADDRESS_LIMIT, laws_of_addresses};
 pub use bytes::Bytes;
-pub use profile::Profile;
+pub use profile::{Profile, laws_of_profiles};
 pub use sums::byte_sum;
 pub use text::{append_decimal, append_hex, spell_hex};

@@ -2,7 +2,7 @@
 use Rattle.std.specs.Prelude.{ℕ, zero, suc, ◌+◌, ◌*◌, ◌==◌, Bool, false, not, ◌&&◌, ◌||◌, List, ◌∷◌, ◌++◌, length, replicate, Option, Some}
 use Rattle.std.specs.Str.{bytes_eq}
 use Rattle.basics.specs.declared.profile.Profile.{Profile}
-use Rattle.basics.specs.declared.profile.Profile.TheVariants.{Base, Field}
+use Rattle.basics.specs.declared.profile.Profile.TheVariants.{Base, Field, Opal}
 use Rattle.std.specs.Int.{w16, w32, w64, to_be_bytes}
 use Rattle.fis.specs.Bytes.{bit}
 use Rattle.sp_cells.specs.declared.names.TheConstants.{RANGES, ADMINS, USERS}
@@ -124,3 +124,4 @@ field_discovery look block =
 abbrev pub discovery_of : Profile → LookUp → SidBlock → List ℕ
 discovery_of Base look block = discovery look
 discovery_of Field look block = field_discovery look block
+discovery_of Opal look block = field_discovery look block

@@ -2,7 +2,7 @@
 use Rattle.std.specs.Prelude.{ℕ, zero, suc, ◌+◌, ◌-◌, ◌*◌, ◌/◌, ◌%◌, ◌^◌, ◌==◌, Bool, ◌&&◌, ◌||◌, nat_le, List, [], ◌∷◌, slice_index_or, codes, if◌then◌else◌}
 use Rattle.std.specs.List.{flat_map}
 use Rattle.basics.specs.declared.profile.Profile.{Profile}
-use Rattle.basics.specs.declared.profile.Profile.TheVariants.{Base, Field}
+use Rattle.basics.specs.declared.profile.Profile.TheVariants.{Base, Field, Opal}
 use Rattle.sp_cells.specs.Config.{Config}
 use Rattle.trusted_cmds.specs.Profiles.{is_multiword, is_ultra}
 use Rattle.device_data.specs.declared.settings.Settings.{Settings}
@@ -108,10 +108,14 @@ field_word config settings word =
     else (if is_of_settings word then settings_word settings word
     else driver_word config.sectors word)
 
+abbrev pub field_identity : Config → Settings → List ℕ
+field_identity config settings =
+    flat_map (λ word. low_first (field_word config settings word)) (run_from 0 256)
+
 abbrev pub identity_in : Profile → Config → Settings → List ℕ
 identity_in Base config settings = identity config.sectors
-identity_in Field config settings =
-    flat_map (λ word. low_first (field_word config settings word)) (run_from 0 256)
+identity_in Field config settings = field_identity config settings
+identity_in Opal config settings = field_identity config settings
 
 -- What a drive answers, by its configuration and what a host has chosen.
 abbrev pub identity_of : Config → Settings → List ℕ

@@ -1,8 +1,7 @@
 //! IDENTIFY DEVICE (ACS-3, IDENTIFY DEVICE data).
 
 ghost use Rattle.std.specs.Prelude.{◌≡◌, ◌≤◌, ◌<◌, ◌%◌, IfOk, true, slice_index_or};
-ghost use Rattle.basics.specs.declared.profile.Profile.TheVariants.{Field};
-ghost use Rattle.device_data.specs.Identity.{sectors_word, identify_word, identity, text_word, is_between, firmware, has_text, name_word, short_capacity, driver_word, mode_bit, settings_word, is_of_settings, field_word, identity_in, identity_of};
+ghost use Rattle.device_data.specs.Identity.{sectors_word, identify_word, identity, text_word, is_between, firmware, has_text, name_word, short_capacity, driver_word, mode_bit, settings_word, is_of_settings, field_word, field_identity, identity_in, identity_of};
 
 use crate::settings::Settings;
 use basics::Profile;
@@ -148,7 +147,7 @@ fn settings_word(settings: &Settings, word: u16) -> u16
     }
 }
 
-/// A word of the answer under `Field`.
+/// A word of the answer under `Field` and `Opal`.
 fn field_word(config: &DriveConfig, settings: &Settings, word: u16) -> u16
     ensures { result ≡ field_word config.now settings.now word }
 {
@@ -161,13 +160,13 @@ fn field_word(config: &DriveConfig, settings: &Settings, word: u16) -> u16
     }
 }
 
-/// The 512 bytes of the answer under `Field`.
+/// The 512 bytes of the answer under `Field` and `Opal`.
 fn field_identity(
     alloc: Global,
     config: &DriveConfig,
     settings: &Settings,
 ) -> Result<Vec<u8>, AllocError>
-    ensures { IfOk result (λ bytes. bytes.items ≡ identity_in Field config.now settings.now) }
+    ensures { IfOk result (λ bytes. bytes.items ≡ field_identity config.now settings.now) }
 {
     let mut bytes = Vec::with_capacity(alloc, 2 * usize::from(WORDS))?;
     for word in 0..WORDS {
@@ -177,7 +176,7 @@ fn field_identity(
 }
 
 /// The 512 bytes that a drive answers to IDENTIFY DEVICE by its configuration and by what a host has chosen. Under `Base`
-/// they are those of `identity`. Under `Field` they also have the names of the drive, the sectors that an address of 28 bits
+/// they are those of `identity`. Under `Field` and `Opal` they also have the names of the drive, the sectors that an address of 28 bits
 /// reaches, and the words by which a driver finds how to talk to it.
 pub fn identity_of(
     alloc: Global,
@@ -188,6 +187,6 @@ pub fn identity_of(
 {
     match config.profile() {
         Profile::Base => identity(alloc, config.sectors()),
-        Profile::Field => field_identity(alloc, config, settings),
+        Profile::Field | Profile::Opal => field_identity(alloc, config, settings),
     }
 }

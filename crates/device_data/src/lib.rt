@@ -12,5 +12,7 @@ pub use identify::{identity, identity_of};
 pub use level0::{DISCOVERY_LENGTH, FIELD_DISCOVERY_LENGTH, discovery, field_discovery, has_owner};
 pub use log_page::{Failure, error_log};
 pub use pages::device_log;
-pub use protocols::{PROTOCOL_LIST_LENGTH, protocol_list};
+pub use protocols::{
+    CERTIFICATE_DATA_LENGTH, PROTOCOL_LIST_LENGTH, certificate_data, protocol_list,
+};
 pub use settings::Settings;

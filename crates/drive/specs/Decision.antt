@@ -95,11 +95,11 @@ executed f payload (ReadLog10 dma) =
 executed f payload (SetFeatures feature) = did (Chose feature)
 executed f payload _ = did Nothing
 
--- Why a trusted command is not taken.
-abbrev pub untaken : Command → Rule
-untaken (Send protocol com_id blocks dma) = unsent protocol com_id blocks
-untaken (Receive protocol com_id blocks dma) = unreceived protocol blocks
-untaken _ = Protocol
+-- Why a trusted command is not taken, where responses wait on these ComIDs.
+abbrev pub untaken : (ℕ → Bool) → Command → Rule
+untaken waits (Send protocol com_id blocks dma) = unsent (waits com_id) protocol com_id blocks
+untaken waits (Receive protocol com_id blocks dma) = unreceived protocol blocks
+untaken waits _ = Protocol
 
 -- The event of a decision.
 abbrev pub decision_event : Facts → List ℕ → Decision → Event

@@ -8,7 +8,6 @@ ghost use Rattle.trusted_cmds.specs.Commands.{IsCounted, most_sectors, read_queu
 ghost use Rattle.device_data.specs.ErrorLog.{failure_by};
 ghost use Rattle.drive.specs.declared.decision.Decision.{Decision};
 ghost use Rattle.drive.specs.declared.decision.Cause.{Cause};
-ghost use Rattle.drive.specs.Decision.{untaken};
 ghost use Rattle.drive.specs.Transfer.{by_op, queued_command};
 ghost use Rattle.sp_cells.specs.Config.{Config};
 
@@ -17,11 +16,14 @@ use crate::drive::Drive;
 use crate::transfer::{Held, Transfer};
 use audit::rules::Rule;
 use basics::Profile;
+use compacket::MAX_COM_PACKET;
 use device_data::Failure;
 use fis::{RegH2d, Tag};
 use locking::Op;
 use tper::is_session_com_id;
-use trusted_cmds::{Command, is_protocol_list, is_queued, of_fis, sectors, tag_of};
+use trusted_cmds::{
+    Command, SECTOR_SIZE, is_certificate_data, is_protocol_list, is_queued, of_fis, sectors, tag_of,
+};
 
 /// The ComID of Level 0 discovery.
 pub(crate) const DISCOVERY_COM_ID: u16 = 1;
@@ -92,40 +94,15 @@ fn fails_queue(tag: Option<Tag>, h: &RegH2d, rule: Rule) -> Decision
     }
 }
 
-/// Why a trusted command is not taken.
-fn untaken(command: &Command) -> Rule
-    ensures { result ≡ untaken command.now }
-{
-    match *command {
-        Command::Send {
-            protocol,
-            sp_specific,
-            blocks,
-            ..
-        } => {
-            if !is_trusted(protocol, blocks) {
-                Rule::Protocol
-            } else if !is_session_com_id(sp_specific) {
-                Rule::ComId
-            } else {
-                Rule::ResponseWaits
-            }
-        }
-        Command::Receive {
-            protocol,
-            blocks,
-            ..
-        } if is_trusted(protocol, blocks) => Rule::ComId,
-        _ => Rule::Protocol,
-    }
-}
-
 impl Drive {
     ghost use Rattle.std.specs.Prelude.{◌≡◌, ◌<◌, ◌&&◌, not, ℕ, List, Some, None, Ok, is_some, IfSome, true, false};
     ghost use Rattle.fis.specs.Tags.{slot_count};
     ghost use Rattle.trusted_cmds.specs.Commands.{is_queued};
     ghost use Rattle.trusted_cmds.specs.BlockSid.{is_block_sid};
-    ghost use Rattle.history.specs.Decisions.{any_below, resets, tells_protocols};
+    ghost use Rattle.history.specs.Decisions.{any_below, resets, asks_certificates, tells_protocols};
+    ghost use Rattle.history.specs.Tcg.{takes_blocks};
+    ghost use Rattle.drive.specs.Decision.{untaken};
+    ghost use Rattle.tper.specs.Tper.{response_at};
     ghost use Rattle.transactions.specs.Sights.{look_up, committed_sight};
     ghost use Rattle.drive.specs.Decision.{decision_event, transfer_deed, IsDue, IsTrustedCommand};
     ghost use Rattle.drive.specs.State.{kept_facts};
@@ -317,13 +294,66 @@ impl Drive {
         }
     }
 
-    /// Whether the drive tells the list of security protocols, which a command asks for.
+    /// Whether the drive tells what a command asks for by security protocol 00h: the list of security protocols, and of a
+    /// drive of `Opal` the certificates.
     fn tells_protocols(&self, command: &Command) -> bool
         ensures { result ≡ tells_protocols self.now.tper.store.config.profile command.now }
     {
         match self.profile() {
             Profile::Base => false,
             Profile::Field => is_protocol_list(command),
+            Profile::Opal => is_protocol_list(command) || is_certificate_data(command),
+        }
+    }
+
+    /// Whether a command asks for the certificates, of a drive of `Opal`.
+    pub(crate) fn asks_certificates(&self, command: &Command) -> bool
+        ensures { result ≡ asks_certificates self.now.tper.store.config.profile command.now }
+    {
+        match self.profile() {
+            Profile::Base | Profile::Field => false,
+            Profile::Opal => is_certificate_data(command),
+        }
+    }
+
+    /// Whether a send may have so many blocks: of a drive of `Opal` no more bytes than the largest ComPacket has.
+    fn takes_blocks(&self, blocks: u16) -> bool
+        ensures { result ≡ takes_blocks self.now.tper.store.config.profile blocks }
+    {
+        match self.profile() {
+            Profile::Base | Profile::Field => true,
+            Profile::Opal => SECTOR_SIZE * usize::from(blocks) <= MAX_COM_PACKET,
+        }
+    }
+
+    /// Why a trusted command is not taken.
+    fn untaken(&self, command: &Command) -> Rule
+        ensures { result ≡ untaken (λ com_id. is_some (response_at self.now.tper.waiting com_id))
+            command.now }
+    {
+        match *command {
+            Command::Send {
+                protocol,
+                sp_specific,
+                blocks,
+                ..
+            } => {
+                if !is_trusted(protocol, blocks) {
+                    Rule::Protocol
+                } else if !is_session_com_id(sp_specific) {
+                    Rule::ComId
+                } else if self.is_waiting(sp_specific) {
+                    Rule::ResponseWaits
+                } else {
+                    Rule::LongTransfer
+                }
+            }
+            Command::Receive {
+                protocol,
+                blocks,
+                ..
+            } if is_trusted(protocol, blocks) => Rule::ComId,
+            _ => Rule::Protocol,
         }
     }
 
@@ -345,7 +375,7 @@ impl Drive {
     }
 
     /// A trusted command: of security protocol 01h, with one block at least, on a ComID that takes it, or a receive of
-    /// the list of protocols. A send while a response waits there is aborted.
+    /// what security protocol 00h tells. A send while a response waits there is aborted, and one that is too long.
     fn trusted(&self, h: &RegH2d, command: Command) -> Decision
         requires reads { command_read self.now.tper.store.config h.now ≡ Ok (command, None) }
         requires trusted { IsTrustedCommand command }
@@ -365,6 +395,7 @@ impl Drive {
             } => {
                 is_trusted(protocol, blocks)
                     && is_session_com_id(sp_specific)
+                    && self.takes_blocks(blocks)
                     && !self.is_waiting(sp_specific)
             }
             Command::Receive {
@@ -382,7 +413,7 @@ impl Drive {
         if is_taken {
             Decision::Executes(command)
         } else {
-            aborts(untaken(&command))
+            aborts(self.untaken(&command))
         }
     }
 }

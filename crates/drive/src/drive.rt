@@ -421,7 +421,7 @@ impl Drive {
                 let bytes = discovery(&self.tper.in_force());
                 sized(self.alloc, &bytes, room)
             }
-            Profile::Field => {
+            Profile::Field | Profile::Opal => {
                 let bytes = field_discovery(&self.tper.in_force(), self.tper.block());
                 sized(self.alloc, &bytes, room)
             }

@@ -147,6 +147,9 @@ impl Drive {
                 if is_protocol_list(command) {
                     return Ok((self.protocols(room)?, Objection::none()));
                 }
+                if self.asks_certificates(command) {
+                    return Ok((self.certificates(room)?, Objection::none()));
+                }
                 let bytes = self.received(sp_specific, room)?;
                 Ok((bytes, Objection::none()))
             }

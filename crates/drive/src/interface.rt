@@ -3,14 +3,14 @@
 ghost use Rattle.std.specs.Prelude.{◌≡◌, IfOk};
 
 use crate::drive::Drive;
-use device_data::{device_log, identity_of, protocol_list};
+use device_data::{certificate_data, device_log, identity_of, protocol_list};
 use std::alloc::AllocError;
 use tper::sized;
 use trusted_cmds::{Feature, LogPages};
 
 impl Drive {
     ghost use Rattle.device_data.specs.ErrorLog.{sized};
-    ghost use Rattle.device_data.specs.Protocols.{protocol_list as protocols_told};
+    ghost use Rattle.device_data.specs.Protocols.{protocol_list as protocols_told, certificate_data as certificates_told};
     ghost use Rattle.device_data.specs.Identity.{identity_of as identity_in};
     ghost use Rattle.device_data.specs.DevicePages.{device_log as pages_told};
     ghost use Rattle.device_data.specs.Settings.{with_feature};
@@ -20,6 +20,13 @@ impl Drive {
         ensures { IfOk result (λ v. v.items ≡ sized room protocols_told) }
     {
         sized(self.alloc, &protocol_list(), room)
+    }
+
+    /// The certificates: as many bytes as the transfer has.
+    pub(crate) fn certificates(&self, room: usize) -> Result<Vec<u8>, AllocError>
+        ensures { IfOk result (λ v. v.items ≡ sized room certificates_told) }
+    {
+        sized(self.alloc, &certificate_data(), room)
     }
 
     /// The data of IDENTIFY DEVICE.

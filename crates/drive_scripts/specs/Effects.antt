@@ -90,16 +90,25 @@ transferred o acts command transfer byte =
 abbrev pub protocol_list_size : List ℕ → ℕ
 protocol_list_size bytes = 8 + from_be_bytes w16 (slice_range bytes 6 8)
 
+-- certificate data have their length in bytes 2 and 3, the high byte first (SPC-4)
+abbrev pub certificate_data_size : List ℕ → ℕ
+certificate_data_size bytes = 4 + from_be_bytes w16 (slice_range bytes 2 4)
+
+-- by security protocol 00h: SP Specific 0001h are the certificates, else it is the list
+abbrev pub told_size : ℕ → List ℕ → ℕ
+told_size sp_specific bytes =
+    if sp_specific == 1 then certificate_data_size bytes else protocol_list_size bytes
+
 -- Level 0 discovery has the length of what follows in its first four bytes, the highest byte first
 -- (Core 2.01, section 3.3.6)
 abbrev pub discovery_size : List ℕ → ℕ
 discovery_size bytes = 4 + from_be_bytes w32 (slice_range bytes 0 4)
 
--- what a receive shows: by security protocol 00h the list of protocols, on the ComID of Level 0
--- discovery its bytes, else the header of the ComPacket and the bytes that it counts
+-- what a receive shows: by security protocol 00h the list of protocols or the certificates, on the
+-- ComID of Level 0 discovery its bytes, else the header of the ComPacket and the bytes that it counts
 abbrev pub shown_bytes : ℕ → ℕ → List ℕ → List ℕ
 shown_bytes protocol com_id bytes =
-    if protocol == 0 then take (protocol_list_size bytes) bytes
+    if protocol == 0 then take (told_size com_id bytes) bytes
     else (if com_id == discovery_com_id then take (discovery_size bytes) bytes
     else take (com_packet_size bytes) bytes)
 

@@ -3,7 +3,7 @@
 ghost use Rattle.std.specs.Prelude.{◌≡◌, ◌∷◌, [], OnOk, take};
 ghost use Rattle.compacket.specs.Frames.{com_packet_size};
 ghost use Rattle.script_lines.specs.Texts.{Prints, denial_lines, refusal_lines};
-ghost use Rattle.drive_scripts.specs.Effects.{protocol_list_size, discovery_size, shown_bytes, served_text, told_lines};
+ghost use Rattle.drive_scripts.specs.Effects.{protocol_list_size, certificate_data_size, told_size, discovery_size, shown_bytes, served_text, told_lines};
 
 use audit::{AuditLine, Why};
 use byteorder::{BigEndian, ByteOrder};
@@ -19,6 +19,12 @@ const DISCOVERY_HEADER: usize = 4;
 
 /// How many bytes stand in front of the security protocols that are listed.
 const PROTOCOL_LIST_HEADER: usize = 8;
+
+/// How many bytes stand in front of the certificates.
+const CERTIFICATE_DATA_HEADER: usize = 4;
+
+/// The SP Specific field by which security protocol 00h tells the certificates.
+const CERTIFICATE_DATA: u16 = 1;
 
 /// The header of a ComPacket and the bytes that it counts, as far as they are there.
 fn com_packet(bytes: &[u8]) -> &[u8]
@@ -42,6 +48,28 @@ fn protocol_list(bytes: &[u8]) -> &[u8]
     &bytes[..size.min(bytes.len())]
 }
 
+/// The certificates, as far as they are there.
+fn certificate_data(bytes: &[u8]) -> &[u8]
+    ensures { result.now ≡ take (certificate_data_size bytes.now) bytes.now }
+{
+    if bytes.len() < CERTIFICATE_DATA_HEADER {
+        return bytes;
+    }
+    let size = CERTIFICATE_DATA_HEADER + usize::from(BigEndian::read_u16(&bytes[2..]));
+    &bytes[..size.min(bytes.len())]
+}
+
+/// What security protocol 00h tells, as far as it is there.
+fn told(sp_specific: u16, bytes: &[u8]) -> &[u8]
+    ensures { result.now ≡ take (told_size sp_specific bytes.now) bytes.now }
+{
+    if sp_specific == CERTIFICATE_DATA {
+        certificate_data(bytes)
+    } else {
+        protocol_list(bytes)
+    }
+}
+
 /// Level 0 discovery, as far as it is there.
 fn discovery(bytes: &[u8]) -> &[u8]
     ensures { result.now ≡ take (discovery_size bytes.now) bytes.now }
@@ -58,7 +86,7 @@ pub fn shown(protocol: u8, com_id: ComId, bytes: &[u8]) -> &[u8]
     ensures { result.now ≡ shown_bytes protocol com_id bytes.now }
 {
     if protocol == 0 {
-        protocol_list(bytes)
+        told(com_id, bytes)
     } else if com_id == DISCOVERY_COM_ID {
         discovery(bytes)
     } else {

@@ -1,11 +1,12 @@
 -- What is asked belongs to its method; which objects have an access row.
 use Rattle.basics.specs.declared.profile.Profile.{Profile}
-use Rattle.basics.specs.declared.profile.Profile.TheVariants.{Base, Field}
+use Rattle.basics.specs.Profiles.{has_field}
+use Rattle.basics.specs.declared.profile.Profile.TheVariants.{Base, Field, Opal}
 use Rattle.std.proofs.Common.{◌≡◌, ℕ, ◌==◌, Bool, true, false, ◌&&◌, ◌||◌, not, List, [], ◌∷◌, Option, Some, None, refl, sym, ◌∙◌, ap, cond, eqb-true}
 use Rattle.std.specs.Prelude.{◌-◌, ◌^◌, length, option_map, nat_le}
 use Rattle.std.specs.List.{list_all}
 use Rattle.basics.specs.declared.profile.Profile.{Profile}
-use Rattle.basics.specs.declared.profile.Profile.TheVariants.{Base, Field}
+use Rattle.basics.specs.declared.profile.Profile.TheVariants.{Base, Field, Opal}
 use Rattle.sp_cells.specs.declared.names.Uid.{Uid}
 use Rattle.sp_cells.specs.declared.names.Sp.{Sp}
 use Rattle.sp_cells.specs.declared.names.Sp.TheVariants.{Admin, Locking}
@@ -27,6 +28,7 @@ use Rattle.history.specs.Deeds.{is_set_in_admin}
 abbrev is_own_of_field : Profile → Uid → Uid → Bool
 is_own_of_field Base wanted method = false
 is_own_of_field Field wanted method = method.0 == wanted.0
+is_own_of_field Opal wanted method = method.0 == wanted.0
 
 abbrev pub is_own : Profile → Ask → Uid → Bool
 is_own profile (GetCells first last) method = method.0 == get.0
@@ -41,9 +43,10 @@ is_own profile (RevertSp keep) method = is_own_of_field profile revert_sp method
 is_own profile Other method = true
 
 -- a method of the field profile
-pub own-of-field : (profile : Profile) (wanted method : Uid) → is_own_of_field profile wanted method ≡ true → (profile ≡ Field) × ((method.0 == wanted.0) ≡ true)
+pub own-of-field : (profile : Profile) (wanted method : Uid) → is_own_of_field profile wanted method ≡ true → (has_field profile ≡ true) × ((method.0 == wanted.0) ≡ true)
 own-of-field Base wanted method h = cc
 own-of-field Field wanted method h = (refl, h)
+own-of-field Opal wanted method h = (refl, h)
 
 -- where something is given, it passes
 record Gives {A : Type 0} (p : A → Bool) (o : Option A) : Type 0 where
@@ -160,6 +163,10 @@ other-gives Field method args =
     let p : Ask → Bool = λ ask. is_own Field ask method in
     by-test p (method.0 == gen_key.0) _ _ (λ is. nothing-gives p GenKey args is) (λ no_key.
     by-test p (method.0 == revert_sp.0) _ _ (λ is. keep-gives p (options (keep_global_range_key_parameter ∷ []) args) (λ keep. is)) (λ no_revert. gives-some p Other refl))
+other-gives Opal method args =
+    let p : Ask → Bool = λ ask. is_own Opal ask method in
+    by-test p (method.0 == gen_key.0) _ _ (λ is. nothing-gives p GenKey args is) (λ no_key.
+    by-test p (method.0 == revert_sp.0) _ _ (λ is. keep-gives p (options (keep_global_range_key_parameter ∷ []) args) (λ keep. is)) (λ no_revert. gives-some p Other refl))
 
 asked-gives : (profile : Profile) (sp : Sp) (object method : Uid) (args : List Tree) → Gives (λ ask. is_own profile ask method) (ask_of profile sp object method args)
 asked-gives profile sp object method args =
@@ -201,26 +208,31 @@ no_activate : (profile : Profile) → list_all (λ g. not (is_row_of Locking act
 unfolding this_sp_grants owner_grants label_grants removal_grants authority_grants fixed_ace_gets user_ace_grants range_get_ace_grants gen_key_ace_grants read_locked_ace_grants write_locked_ace_grants done_ace_grants pin_grants range_get_grants range_set_grants mbr_grants info_grants datastore_grants key_grants authorities_of_locking
 no_activate Base = refl
 no_activate Field = refl
+no_activate Opal = refl
 
 no_revert : (profile : Profile) → list_all (λ g. not (is_row_of Locking revert g) || false) (access_list profile) ≡ true
 unfolding this_sp_grants owner_grants label_grants removal_grants authority_grants fixed_ace_gets user_ace_grants range_get_ace_grants gen_key_ace_grants read_locked_ace_grants write_locked_ace_grants done_ace_grants pin_grants range_get_grants range_set_grants mbr_grants info_grants datastore_grants key_grants authorities_of_locking
 no_revert Base = refl
 no_revert Field = refl
+no_revert Opal = refl
 
 no_gen_key : (profile : Profile) → list_all (λ g. not (is_row_of Admin gen_key g) || false) (access_list profile) ≡ true
 unfolding this_sp_grants owner_grants label_grants removal_grants authority_grants fixed_ace_gets user_ace_grants range_get_ace_grants gen_key_ace_grants read_locked_ace_grants write_locked_ace_grants done_ace_grants pin_grants range_get_grants range_set_grants mbr_grants info_grants datastore_grants key_grants authorities_of_locking
 no_gen_key Base = refl
 no_gen_key Field = refl
+no_gen_key Opal = refl
 
 no_revert_sp : (profile : Profile) → list_all (λ g. not (is_row_of Admin revert_sp g) || false) (access_list profile) ≡ true
 unfolding this_sp_grants owner_grants label_grants removal_grants authority_grants fixed_ace_gets user_ace_grants range_get_ace_grants gen_key_ace_grants read_locked_ace_grants write_locked_ace_grants done_ace_grants pin_grants range_get_grants range_set_grants mbr_grants info_grants datastore_grants key_grants authorities_of_locking
 no_revert_sp Base = refl
 no_revert_sp Field = refl
+no_revert_sp Opal = refl
 
 only_three_rows : (profile : Profile) → list_all (λ g. not (is_row_of Admin set g) || is_set_in_admin g.object) (access_list profile) ≡ true
 unfolding this_sp_grants owner_grants label_grants removal_grants authority_grants fixed_ace_gets user_ace_grants range_get_ace_grants gen_key_ace_grants read_locked_ace_grants write_locked_ace_grants done_ace_grants pin_grants range_get_grants range_set_grants mbr_grants info_grants datastore_grants key_grants authorities_of_locking
 only_three_rows Base = refl
 only_three_rows Field = refl
+only_three_rows Opal = refl
 
 -- Activate and Revert are of the Admin SP; a Set there is of one of three rows
 pub activate-admin : (profile : Profile) (sp : Sp) (object method : Uid) (row : List Uid) → (method.0 == activate.0) ≡ true → acl_in (access_list profile) sp object method ≡ Some row → sp ≡ Admin

@@ -1,6 +1,6 @@
 -- No change makes a cell, and no opening has one behind the last column.
 use Rattle.basics.specs.declared.profile.Profile.{Profile}
-use Rattle.basics.specs.declared.profile.Profile.TheVariants.{Base, Field}
+use Rattle.basics.specs.declared.profile.Profile.TheVariants.{Base, Field, Opal}
 use Rattle.std.proofs.Common.{◌≡◌, ℕ, ◌+◌, ◌<◌, ◌==◌, Bool, true, false, ◌&&◌, List, [], ◌∷◌, Option, Some, None, refl, ◌∙◌, ap, cond, arith}
 use Rattle.std.specs.Prelude.{nat_le, option_map, Result, Ok, Err}
 use Rattle.std.specs.List.{list_all}
@@ -141,11 +141,13 @@ admin-few : (p : Profile) (msid psid : List ℕ) → are_few (last_column p).0 (
 unfolding admin_sps admin_authorities label_authorities admin_pins label_pins admin_aces label_aces removal_aces data_removals
 admin-few Base msid psid = refl
 admin-few Field msid psid = refl
+admin-few Opal msid psid = refl
 
 locking-few : (p : Profile) (sizes : TableSizes) → are_few (last_column p).0 (locking_factory p sizes) ≡ true
 unfolding locking_authorities locking_pins locking_ranges locking_mbr_controls authority_aces pin_aces range_get_aces range_aces mbr_aces gen_key_aces range_keys locking_infos byte_tables datastore_aces
 locking-few Base sizes = refl
 locking-few Field sizes = refl
+locking-few Opal sizes = refl
 
 factory-few : (config : Config) → AreFew (last_column config.profile).0 (factory_origin config).tables
 factory-few config = record { admin = admin-few config.profile config.msid config.psid; locking = locking-few config.profile (sizes_in config) }

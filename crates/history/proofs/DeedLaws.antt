@@ -31,7 +31,7 @@ use Rattle.tcg_calls.specs.Carried.{is_carried}
 use Rattle.methods.specs.declared.kinds.Kind.{Kind}
 use Rattle.methods.specs.declared.kinds.Kind.TheVariants as kinds
 use Rattle.basics.specs.declared.profile.Profile.{Profile}
-use Rattle.basics.specs.declared.profile.Profile.TheVariants.{Field}
+use Rattle.basics.specs.Profiles.{has_field}
 use Rattle.sp_cells.specs.Numbers.{key_number}
 use Rattle.methods.specs.Erasures.{is_wholly_locked}
 use Rattle.methods.specs.Kinds.{kind_of, byte_table_of}
@@ -202,8 +202,8 @@ reverts-outside s object method sp g =
       (open-kind s.is_open (Reverts (sp_of_row object)) 4 (ap (λ a. kind (does_ask s object a)) (sym x.0) ∙ ap kind g.does)).1,
     )
 
--- GenKey and RevertSP: a session of the Locking SP that has no transaction open, under the field profile
-gen-key-is : (profile : Profile) (ask : Ask) (method : Uid) → is_own profile ask method ≡ true → ask_kind ask ≡ 6 → (ask ≡ GenKey) × (profile ≡ Field) × ((method.0 == gen_key.0) ≡ true)
+-- GenKey and RevertSP: a session of the Locking SP that has no transaction open, under each profile but the base one
+gen-key-is : (profile : Profile) (ask : Ask) (method : Uid) → is_own profile ask method ≡ true → ask_kind ask ≡ 6 → (ask ≡ GenKey) × (has_field profile ≡ true) × ((method.0 == gen_key.0) ≡ true)
 gen-key-is profile GenKey method own h = let f = own-of-field profile gen_key method own in (refl, f.0, f.1)
 gen-key-is profile (RevertSp keep) method own h = cc
 gen-key-is profile (GetCells a b) method own h = cc
@@ -218,7 +218,7 @@ gen-key-is profile Other method own h = cc
 record IsOfSp (ask : Ask) (profile : Profile) (method : Uid) : Type 0 where
   keep : Bool
   is : ask ≡ RevertSp keep
-  field : profile ≡ Field
+  field : has_field profile ≡ true
   named : (method.0 == revert_sp.0) ≡ true
 
 revert-sp-is : (profile : Profile) (ask : Ask) (method : Uid) → is_own profile ask method ≡ true → ask_kind ask ≡ 7 → IsOfSp ask profile method
@@ -233,7 +233,7 @@ revert-sp-is profile Activate method own h = cc
 revert-sp-is profile Revert method own h = cc
 revert-sp-is profile Other method own h = cc
 
-erases-outside : (s : Standing) (object method : Uid) (range : ℕ) → Granted s object method 5 (Erases range) → (s.sp ≡ Locking) × (s.is_open ≡ false) × (s.profile ≡ Field)
+erases-outside : (s : Standing) (object method : Uid) (range : ℕ) → Granted s object method 5 (Erases range) → (s.sp ≡ Locking) × (s.is_open ≡ false) × (has_field s.profile ≡ true)
 erases-outside s object method range g =
     let x = gen-key-is s.profile g.ask method g.own g.kind in (
       gen-key-locking s.profile s.sp object method g.row x.2 g.has,
@@ -247,7 +247,7 @@ unlocked-by false true true keep h is = absurd (zero-one (ap kind h))
 unlocked-by false true false keep h is = refl
 unlocked-by false false l keep h is = let same : false ≡ keep = cc in let no : false ≡ true = same ∙ is in cc
 
-reverts-sp-outside : (s : Standing) (object method : Uid) (keep : Bool) → Granted s object method 6 (RevertsSp keep) → (s.sp ≡ Locking) × (s.is_open ≡ false) × (s.profile ≡ Field) × (keep ≡ true → is_wholly_locked s.rows ≡ false)
+reverts-sp-outside : (s : Standing) (object method : Uid) (keep : Bool) → Granted s object method 6 (RevertsSp keep) → (s.sp ≡ Locking) × (s.is_open ≡ false) × (has_field s.profile ≡ true) × (keep ≡ true → is_wholly_locked s.rows ≡ false)
 reverts-sp-outside s object method keep g =
     let x = revert-sp-is s.profile g.ask method g.own g.kind in (
       revert-sp-locking s.profile s.sp object method g.row x.named g.has,
@@ -465,11 +465,11 @@ judged-can o past s h object method args (Reverts sp) is = inl (record { outside
     outside = reverts-outside (standing (facts o past) s) object method sp (granted (standing (facts o past) s) object method args 4 (Reverts sp) (asked o.tables.config.profile s.sp object method args) refl is refl)
 judged-can o past s h object method args (Erases range) is = record { outside = outside-of o past s h Locking outside.0 outside.1; profile = outside.2; range = range; erases = refl }
   where
-    outside : (s.sp ≡ Locking) × (has_open (facts o past) s ≡ false) × (o.tables.config.profile ≡ Field)
+    outside : (s.sp ≡ Locking) × (has_open (facts o past) s ≡ false) × (has_field o.tables.config.profile ≡ true)
     outside = erases-outside (standing (facts o past) s) object method range (granted (standing (facts o past) s) object method args 5 (Erases range) (asked o.tables.config.profile s.sp object method args) refl is refl)
 judged-can o past s h object method args (RevertsSp keep) is = inr (record { outside = outside-of o past s h Locking outside.0 outside.1; profile = outside.2; reverts = refl; keep = keep; erases = refl; unlocked = λ kept. ap (λ (rows : RowLook). is_wholly_locked (λ _. rows)) seen ∙ outside.3 kept })
   where
-    outside : (s.sp ≡ Locking) × (has_open (facts o past) s ≡ false) × (o.tables.config.profile ≡ Field) × (keep ≡ true → is_wholly_locked (view o past s.number) ≡ false)
+    outside : (s.sp ≡ Locking) × (has_open (facts o past) s ≡ false) × (has_field o.tables.config.profile ≡ true) × (keep ≡ true → is_wholly_locked (view o past s.number) ≡ false)
     outside = reverts-sp-outside (standing (facts o past) s) object method keep (granted (standing (facts o past) s) object method args 6 (RevertsSp keep) (asked o.tables.config.profile s.sp object method args) refl is refl)
 
     seen : in_force o past Locking ≡ view o past s.number Locking

@@ -50,7 +50,7 @@ use Rattle.device_data.specs.Discovery.{has_owner}
 use Rattle.history.specs.Events.{Nothing, Wrote, Took, HeldCommand, Event, did, WasReset, BlockedSid, ignores}
 use Rattle.history.specs.Facts.{Facts, session_named, has_open, standing}
 use Rattle.history.specs.Decisions.{not_found, fails, refuses, aborted, fails_queue, on_drive, verdict_on, queued_by, admitted, unqueued_by, is_trusted, is_session_com_id, discovery_com_id, received, while_failed, is_busy, completed_by, completed, resets, is_received, unreceived}
-use Rattle.history.specs.Tcg.{answers, start_verdict, started_by, started, is_method_of_manager, to_manager, judgement_on, begins_on, ends_on, in_session, is_manager, to_session, framed, sent, unqueued, known, commanded, tcg, command_read, item_in, blocks_sid, send_item, send, unsent}
+use Rattle.history.specs.Tcg.{answers, start_verdict, started_by, started, is_method_of_manager, to_manager, judgement_on, begins_on, ends_on, in_session, is_manager, to_session, framed, sent, unqueued, known, commanded, tcg, command_read, item_in, blocks_sid, send_item, send, unsent, is_sent}
 use Rattle.methods.specs.Calls.{tried_in, outcome_of}
 use Rattle.history.specs.History.{Act, Accept, Complete, Reset, SoftwareReset, event_by}
 use Rattle.history.specs.MethodLaws.{IsLookedAt, IsSent, IsCall}
@@ -328,17 +328,17 @@ framed-is f act why com_id frame sent h = by_manager (is_manager frame.session) 
     by_manager false is g = by_session is (session_named f com_id frame.session) refl g
 
 send-is : (f : Facts) (act : Act) (why : Why) (protocol com_id blocks : ℕ) (dma : Bool) (looked : IsLookedAt f act (Send protocol com_id blocks dma) None) → (send_item f protocol com_id blocks looked.payload).denied ≡ Some why → IsDenied f act why
-send-is f act why protocol com_id blocks dma looked h = by_taken (is_trusted protocol blocks && is_session_com_id com_id && not (is_some (f.waiting com_id))) refl h
+send-is f act why protocol com_id blocks dma looked h = by_taken (is_sent f protocol com_id blocks) refl h
   where
-    by_id : (is_trusted protocol blocks && is_session_com_id com_id && not (is_some (f.waiting com_id))) ≡ true → (frame : Frame) → frame_in looked.payload ≡ Ok frame → (b : Bool) → (frame.com_id == com_id) ≡ b → (cond b (framed f com_id frame) (ignores NoFrame)).denied ≡ Some why → IsDenied f act why
+    by_id : (is_sent f protocol com_id blocks) ≡ true → (frame : Frame) → frame_in looked.payload ≡ Ok frame → (b : Bool) → (frame.com_id == com_id) ≡ b → (cond b (framed f com_id frame) (ignores NoFrame)).denied ≡ Some why → IsDenied f act why
     by_id taken frame is false same g = absurd (nothing g)
     by_id taken frame is true same g = framed-is f act why com_id frame (record { protocol = protocol; blocks = blocks; dma = dma; looked = looked; taken = taken; framed = is; addressed = same }) g
 
-    by_frame : (is_trusted protocol blocks && is_session_com_id com_id && not (is_some (f.waiting com_id))) ≡ true → (r : Result Frame FrameError) → frame_in looked.payload ≡ r → (sent f com_id r).denied ≡ Some why → IsDenied f act why
+    by_frame : (is_sent f protocol com_id blocks) ≡ true → (r : Result Frame FrameError) → frame_in looked.payload ≡ r → (sent f com_id r).denied ≡ Some why → IsDenied f act why
     by_frame taken (Err e) is g = absurd (nothing g)
     by_frame taken (Ok frame) is g = by_id taken frame is (frame.com_id == com_id) refl g
 
-    by_taken : (b : Bool) → (is_trusted protocol blocks && is_session_com_id com_id && not (is_some (f.waiting com_id))) ≡ b → (cond b (sent f com_id (frame_in looked.payload)) (refuses (unsent protocol com_id blocks))).denied ≡ Some why → IsDenied f act why
+    by_taken : (b : Bool) → (is_sent f protocol com_id blocks) ≡ b → (cond b (sent f com_id (frame_in looked.payload)) (refuses (unsent (is_some (f.waiting com_id)) protocol com_id blocks))).denied ≡ Some why → IsDenied f act why
     by_taken false is g = absurd (nothing g)
     by_taken true is g = by_frame is (frame_in looked.payload) refl g
 

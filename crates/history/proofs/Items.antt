@@ -26,7 +26,7 @@ use Rattle.device_data.specs.Discovery.{has_owner}
 use Rattle.history.specs.Events.{Response, HeldCommand, Deed, Nothing, InSession, Wrote, Event, or_else, WasReset, did, BlockedSid}
 use Rattle.history.specs.Facts.{Facts, is_named, if_named, session_named}
 use Rattle.history.specs.Decisions.{aborted, not_found, fails, refuses, fails_queue, on_drive, verdict_on, queued_by, queued_transfer, admitted, unqueued_by, unqueued_transfer, is_trusted, is_session_com_id, discovery_com_id, received, while_failed, is_busy, completed_by, completed, resets, is_received, unreceived}
-use Rattle.history.specs.Tcg.{answers, to_manager, in_session, is_manager, to_session, framed, sent, unqueued, known, commanded, command_read, item_in, blocks_sid, unsent}
+use Rattle.history.specs.Tcg.{answers, to_manager, in_session, is_manager, to_session, framed, sent, unqueued, known, commanded, command_read, item_in, blocks_sid, unsent, is_sent}
 use Rattle.history.specs.History.{Act, Accept, Complete, Reset, SoftwareReset, event_by}
 use Rattle.sp_cells.specs.Resets.{programmatic}
 use Rattle.audit.specs.declared.rules.rule.Rule.TheVariants.{NoCommand, Unreadable, Mixed, BeyondDrive, SidKept}
@@ -118,7 +118,7 @@ unqueued-comes f payload (Send protocol com_id blocks dma) =
     either f (resets f.rows (Send protocol com_id blocks dma)) (did (WasReset programmatic)) _ (no_item refl)
     (either f (is_block_sid f.config.profile (Send protocol com_id blocks true)) (blocks_sid f payload) _
     (either f (has_owner f.rows || is_blocked f.block) (refuses SidKept) (did (BlockedSid (block_asked payload))) (no_item refl) (no_item refl))
-    (either f (is_trusted protocol blocks && is_session_com_id com_id && not (is_some (f.waiting com_id))) _ (refuses (unsent protocol com_id blocks)) (sent-comes f com_id (frame_in payload)) (no_item refl)))
+    (either f (is_sent f protocol com_id blocks) _ (refuses (unsent (is_some (f.waiting com_id)) protocol com_id blocks)) (sent-comes f com_id (frame_in payload)) (no_item refl)))
 unqueued-comes f payload (Receive protocol com_id blocks dma) = either f (is_received f protocol com_id blocks) _ (refuses (unreceived protocol blocks)) (received-comes f com_id blocks (f.waiting com_id)) (no_item refl)
 unqueued-comes f payload _ = no_item refl
 

@@ -1,6 +1,6 @@
 -- What a store keeps over what a drive starts from; and which rows count attempts there.
 use Rattle.basics.specs.declared.profile.Profile.{Profile}
-use Rattle.basics.specs.declared.profile.Profile.TheVariants.{Base, Field}
+use Rattle.basics.specs.declared.profile.Profile.TheVariants.{Base, Field, Opal}
 use Rattle.std.proofs.Common.{◌≡◌, ℕ, ◌==◌, ◌*◌, Bool, true, false, ◌&&◌, not, List, [], ◌∷◌, Option, Some, None, refl, sym, ◌∙◌, ap, cond, eqb-true}
 use Rattle.std.specs.Prelude.{option_map, Result, Ok, Err}
 use Rattle.std.specs.List.{list_all}
@@ -101,16 +101,19 @@ admin-counts : (p : Profile) (msid psid : List ℕ) → lack (counts_else Admin)
 unfolding admin_sps admin_authorities label_authorities admin_pins label_pins admin_aces label_aces removal_aces data_removals in_family
 admin-counts Base msid psid = refl
 admin-counts Field msid psid = refl
+admin-counts Opal msid psid = refl
 
 locking-counts : (p : Profile) (sizes : TableSizes) → lack (counts_else Locking) (locking_factory p sizes) ≡ true
 unfolding locking_authorities locking_pins locking_ranges locking_mbr_controls authority_aces pin_aces range_get_aces range_aces mbr_aces gen_key_aces range_keys locking_infos byte_tables datastore_aces in_family
 locking-counts Base sizes = refl
 locking-counts Field sizes = refl
+locking-counts Opal sizes = refl
 
 admin-locks : (p : Profile) (msid psid : List ℕ) → lack locks_here (admin_factory p msid psid) ≡ true
 unfolding admin_sps admin_authorities label_authorities admin_pins label_pins admin_aces label_aces removal_aces data_removals is_range
 admin-locks Base msid psid = refl
 admin-locks Field msid psid = refl
+admin-locks Opal msid psid = refl
 
 else-where : (a b : Bool) → a ≡ true → b ≡ false → (a && not b) ≡ true
 else-where true false h g = refl

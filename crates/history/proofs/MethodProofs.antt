@@ -37,7 +37,7 @@ use Rattle.history.specs.Events.{Event, Nothing, did, WasReset, ignores}
 use Rattle.history.specs.Items.{Items}
 use Rattle.history.specs.Facts.{Facts, standing, session_named}
 use Rattle.history.specs.Decisions.{admitted, fails_queue, refuses, aborted, while_failed, is_busy, resets, is_trusted, is_session_com_id, unqueued_of, known_of, commanded_of}
-use Rattle.history.specs.Tcg.{answers, to_manager, to_session, in_session, framed, sent, send, tcg, blocks_sid, send_item, unsent}
+use Rattle.history.specs.Tcg.{answers, to_manager, to_session, in_session, framed, sent, send, tcg, blocks_sid, send_item, unsent, is_free_for}
 use Rattle.methods.specs.Calls.{outcome_of, tried_in}
 use Rattle.history.specs.History.{Act, event_by, event_in}
 use Rattle.history.specs.MethodLaws.{ActEffectLaw, IsSent, CallLaw}
@@ -124,9 +124,9 @@ no-block profile p c k x y h = by (p == 1) refl h
 pub sent_law : (f : Facts) (act : Act) (com_id : ℕ) (frame : Frame) → IsSent f act com_id frame → event_by f act ≡ framed f com_id frame
 sent_law f act com_id frame c =
     looked_law tcg f act (Send c.protocol com_id c.blocks c.dma) None c.looked
-    ∙ ap (λ b. cond b (did (WasReset programmatic)) (send f c.protocol com_id c.blocks c.looked.payload)) (no-reset f.rows c.protocol com_id c.blocks c.dma (is_session_com_id com_id) (not (is_some (f.waiting com_id))) c.taken)
-    ∙ ap (λ b. cond b (blocks_sid f c.looked.payload) (send_item f c.protocol com_id c.blocks c.looked.payload)) (no-block f.config.profile c.protocol com_id c.blocks (is_session_com_id com_id) (not (is_some (f.waiting com_id))) c.taken)
-    ∙ ap (λ b. cond b (sent f com_id (frame_in c.looked.payload)) (refuses (unsent c.protocol com_id c.blocks))) c.taken
+    ∙ ap (λ b. cond b (did (WasReset programmatic)) (send f c.protocol com_id c.blocks c.looked.payload)) (no-reset f.rows c.protocol com_id c.blocks c.dma (is_session_com_id com_id) (is_free_for f com_id c.blocks) c.taken)
+    ∙ ap (λ b. cond b (blocks_sid f c.looked.payload) (send_item f c.protocol com_id c.blocks c.looked.payload)) (no-block f.config.profile c.protocol com_id c.blocks (is_session_com_id com_id) (is_free_for f com_id c.blocks) c.taken)
+    ∙ ap (λ b. cond b (sent f com_id (frame_in c.looked.payload)) (refuses (unsent (is_some (f.waiting com_id)) c.protocol com_id c.blocks))) c.taken
     ∙ ap (sent f com_id) c.framed
     ∙ ap (λ b. cond b (framed f com_id frame) (ignores NoFrame)) c.addressed
 

@@ -1,6 +1,6 @@
 -- A drive that has done no act agrees with none.
 use Rattle.basics.specs.declared.profile.Profile.{Profile}
-use Rattle.basics.specs.declared.profile.Profile.TheVariants.{Base, Field}
+use Rattle.basics.specs.declared.profile.Profile.TheVariants.{Base, Field, Opal}
 use Rattle.std.proofs.Common.{◌≡◌, ℕ, ◌==◌, ◌+◌, ◌/◌, suc, zero, Bool, true, false, ◌&&◌, ◌||◌, not, List, [], ◌∷◌, Option, Some, None, refl, ◌∙◌, ap, cond, eqb-true, arith}
 use Rattle.std.specs.Prelude.{option_map, Result, Ok, Err}
 use Rattle.std.specs.List.{list_all}
@@ -136,11 +136,13 @@ admin-clean : (p : Profile) (msid psid : List ℕ) → are_clean (admin_factory 
 unfolding admin_sps admin_authorities label_authorities admin_pins label_pins admin_aces label_aces removal_aces data_removals
 admin-clean Base msid psid = refl
 admin-clean Field msid psid = refl
+admin-clean Opal msid psid = refl
 
 locking-clean : (p : Profile) (sizes : TableSizes) → are_clean (locking_factory p sizes) ≡ true
 unfolding locking_authorities locking_pins locking_ranges locking_mbr_controls authority_aces pin_aces range_get_aces range_aces mbr_aces gen_key_aces range_keys locking_infos byte_tables datastore_aces
 locking-clean Base sizes = refl
 locking-clean Field sizes = refl
+locking-clean Opal sizes = refl
 
 factory-clean : (config : Config) → AreClean (factory_origin config).tables
 factory-clean config = record { admin = admin-clean config.profile config.msid config.psid; locking = locking-clean config.profile (sizes_in config) }

@@ -13,7 +13,7 @@ use Rattle.history.specs.Answers.{is_holding}
 use Rattle.history.specs.Events.{Deed, Nothing, InSession, OfQueue, Wrote, Took, BlockedSid, Chose, WasReset, Event, did, ignores}
 use Rattle.history.specs.Facts.{Facts, session_named}
 use Rattle.history.specs.Decisions.{refuses, is_trusted, is_session_com_id}
-use Rattle.history.specs.Tcg.{answers, to_manager, is_manager, to_session, framed, sent, tcg, blocks_sid, send_item, unsent}
+use Rattle.history.specs.Tcg.{answers, to_manager, is_manager, to_session, framed, sent, tcg, blocks_sid, send_item, unsent, is_sent}
 use Rattle.history.specs.Quiet.{is_quiet, IsQuiet}
 use Rattle.audit.specs.declared.rules.rule.Rule.TheVariants.{SidKept, NoFrame}
 
@@ -36,7 +36,7 @@ pub tcg_quiet : IsQuiet tcg
 tcg_quiet f protocol com_id blocks payload =
     either (is_block_sid f.config.profile (Send protocol com_id blocks true)) (blocks_sid f payload) (send_item f protocol com_id blocks payload)
     (either (has_owner f.rows || is_blocked f.block) (refuses SidKept) (did (BlockedSid (block_asked payload))) refl refl)
-    (either (is_trusted protocol blocks && is_session_com_id com_id && not (is_some (f.waiting com_id))) (sent f com_id (frame_in payload)) (refuses (unsent protocol com_id blocks)) (sent-quiet f com_id (frame_in payload)) refl)
+    (either (is_sent f protocol com_id blocks) (sent f com_id (frame_in payload)) (refuses (unsent (is_some (f.waiting com_id)) protocol com_id blocks)) (sent-quiet f com_id (frame_in payload)) refl)
 
 -- a quiet deed holds nothing, and is no write
 pub quiet-none : (d : Deed) → is_quiet d ≡ true → is_holding d ≡ false

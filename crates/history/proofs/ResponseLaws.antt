@@ -22,7 +22,7 @@ use Rattle.device_data.specs.Discovery.{has_owner}
 use Rattle.history.specs.Events.{did, HeldCommand, Deed, Nothing, InSession, Wrote, Event, or_else, OfQueue, Took, BlockedSid, Chose, WasReset, latest, ignores}
 use Rattle.history.specs.Facts.{Facts, facts, session_named}
 use Rattle.history.specs.Decisions.{aborted, not_found, fails, refuses, fails_queue, on_drive, verdict_on, queued_by, queued_transfer, admitted, unqueued_by, unqueued_transfer, is_trusted, is_session_com_id, discovery_com_id, received, while_failed, is_busy, completed_by, completed, resets, is_received, unreceived}
-use Rattle.history.specs.Tcg.{answers, to_manager, is_manager, to_session, framed, sent, unqueued, known, commanded, command_read, blocks_sid, unsent}
+use Rattle.history.specs.Tcg.{answers, to_manager, is_manager, to_session, framed, sent, unqueued, known, commanded, command_read, blocks_sid, unsent, is_sent, is_free_for}
 use Rattle.history.specs.History.{Act, Accept, Complete, Reset, SoftwareReset, event_by, event, log}
 use Rattle.history.specs.Readers.{waits, waiting}
 use Rattle.history.specs.Bounds.{ResponseLaw}
@@ -73,8 +73,8 @@ unqueued-on f payload (Send protocol com_id blocks dma) =
     either (resets f.rows (Send protocol com_id blocks dma)) (did (WasReset programmatic)) _ (λ is. refl)
     (either (is_block_sid f.config.profile (Send protocol com_id blocks true)) (blocks_sid f payload) _
     (λ is. either (has_owner f.rows || is_blocked f.block) (refuses SidKept) (did (BlockedSid (block_asked payload))) (λ is. refl) refl)
-    (either (is_trusted protocol blocks && is_session_com_id com_id && not (is_some (f.waiting com_id))) _ (refuses (unsent protocol com_id blocks))
-    (λ is. sent-on f com_id (frame_in payload) (middle (is_trusted protocol blocks) (is_session_com_id com_id) (not (is_some (f.waiting com_id))) is)) refl))
+    (either (is_sent f protocol com_id blocks) _ (refuses (unsent (is_some (f.waiting com_id)) protocol com_id blocks))
+    (λ is. sent-on f com_id (frame_in payload) (middle (is_trusted protocol blocks) (is_session_com_id com_id) (is_free_for f com_id blocks) is)) refl))
 unqueued-on f payload (Receive protocol com_id blocks dma) = either (is_received f protocol com_id blocks) _ (refuses (unreceived protocol blocks)) (λ is. received-on com_id blocks (f.waiting com_id)) refl
 unqueued-on f payload _ = refl
 

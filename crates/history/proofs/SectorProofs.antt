@@ -1,8 +1,8 @@
 -- What moves data lies on the drive, and so sectors behind the last one stay zeros.
-use Rattle.basics.specs.declared.profile.Profile.TheVariants.{Base, Field}
+use Rattle.basics.specs.declared.profile.Profile.TheVariants.{Base, Field, Opal}
 use Rattle.basics.specs.declared.profile.Profile.{Profile}
 use Rattle.trusted_cmds.proofs.Spellings.{short-write}
-use Rattle.trusted_cmds.specs.Profiles.{reading_in, payload_length_in, beside, read_or, short_sectors, short_write_dma}
+use Rattle.trusted_cmds.specs.Profiles.{reading_in, payload_length_in, field_payload_length, beside, read_or, short_sectors, short_write_dma}
 use Rattle.std.proofs.Common.{◌≡◌, ℕ, ◌*◌, ◌==◌, Bool, true, false, ◌&&◌, ◌||◌, not, List, [], ◌∷◌, Option, Some, None, refl, sym, ◌∙◌, ap, cond, ◌+◌, ◌≤◌, ◌/◌, subst, arith, eqb-true}
 use Rattle.std.specs.Prelude.{is_some, nat_le, slice_index, length, Result, Ok, Err, unwrap_or, nat_lt, take, drop, ◌-◌}
 use Rattle.fis.specs.Types.{h2d_type}
@@ -27,7 +27,7 @@ use Rattle.history.specs.Opening.{Origin}
 use Rattle.history.specs.Events.{did, HeldCommand, Deed, Nothing, InSession, Wrote, Event, or_else, OfQueue, Took, BlockedSid, Chose, WasReset, latest, CompletedWrite, Completed, Held, QueueFailed, QueueMended, QueueEnded, ignores}
 use Rattle.history.specs.Facts.{Facts, facts, session_named}
 use Rattle.history.specs.Decisions.{aborted, not_found, fails, refuses, fails_queue, on_drive, verdict_on, queued_by, queued_transfer, admitted, unqueued_by, unqueued_transfer, is_trusted, is_session_com_id, discovery_com_id, received, while_failed, is_busy, completed_by, completed, resets, is_received, unreceived}
-use Rattle.history.specs.Tcg.{answers, to_manager, is_manager, to_session, framed, sent, unqueued, known, commanded, tcg, command_read, blocks_sid, unsent}
+use Rattle.history.specs.Tcg.{answers, to_manager, is_manager, to_session, framed, sent, unqueued, known, commanded, tcg, command_read, blocks_sid, unsent, is_sent, is_free_for}
 use Rattle.history.specs.History.{Act, Accept, Complete, Reset, SoftwareReset, event_by, log}
 use Rattle.shadow_mbr.specs.Erasure.{is_erased}
 use Rattle.sessions.specs.Deeds.{erased_by}
@@ -90,8 +90,8 @@ unqueued-quiet f payload (Send protocol com_id blocks dma) =
     either (resets f.rows (Send protocol com_id blocks dma)) (did (WasReset programmatic)) _ (λ is. refl)
     (either (is_block_sid f.config.profile (Send protocol com_id blocks true)) (blocks_sid f payload) _
     (λ is. either (has_owner f.rows || is_blocked f.block) (refuses SidKept) (did (BlockedSid (block_asked payload))) (λ is. refl) refl)
-    (either (is_trusted protocol blocks && is_session_com_id com_id && not (is_some (f.waiting com_id))) _ (refuses (unsent protocol com_id blocks))
-    (λ is. sent-quiet f com_id (frame_in payload) (middle (is_trusted protocol blocks) (is_session_com_id com_id) (not (is_some (f.waiting com_id))) is)) refl))
+    (either (is_sent f protocol com_id blocks) _ (refuses (unsent (is_some (f.waiting com_id)) protocol com_id blocks))
+    (λ is. sent-quiet f com_id (frame_in payload) (middle (is_trusted protocol blocks) (is_session_com_id com_id) (is_free_for f com_id blocks) is)) refl))
 unqueued-quiet f payload (Receive protocol com_id blocks dma) = either (is_received f protocol com_id blocks) _ (refuses (unreceived protocol blocks)) (λ is. received-quiet com_id blocks (f.waiting com_id)) refl
 unqueued-quiet f payload _ = refl
 
@@ -205,22 +205,23 @@ no-short code is = ap (λ n. n == short_write_dma) (eqb-true code write_dma is)
 not-ok : {e : CommandError} {x : Command × Option ℕ} → ◌≡◌ {A = Result (Command × Option ℕ) CommandError} (Err e) (Ok x) → ⊥
 not-ok k = cc
 
+field-size : (h : RegH2d) (lba count : ℕ) (r : Result (Command × Option ℕ) CommandError) (more : Option Command) → reading h ≡ r → beside h ≡ more
+    → ◌≡◌ {A = Result (Command × Option ℕ) CommandError} (read_or r more) (Ok (WriteDma lba count, None))
+    → field_payload_length h ≡ 512 * count
+field-size h lba count (Ok x) more is m k =
+    let w = read-write h lba count (fault_of h) (is ∙ k) in
+    ap (λ b. cond b (512 * short_sectors h) (payload_length h)) (no-short h.command w.code_is)
+    ∙ base-size h lba count (is ∙ k)
+field-size h lba count (Err error) None is m k = absurd (not-ok k)
+field-size h lba count (Err error) (Some c) is m k =
+    let w = short-write h lba count (m ∙ ap (λ x. Some x) (ok-command k)) in
+    ap (λ b. cond b (512 * short_sectors h) (payload_length h)) w.code ∙ ap (λ n. 512 * n) w.sectors_are
+
 pub write-size : (p : Profile) (h : RegH2d) (lba count : ℕ) → reading_in p h ≡ Ok (WriteDma lba count, None)
     → payload_length_in p h ≡ 512 * count
 write-size Base h lba count g = base-size h lba count g
-write-size Field h lba count g = by_read (reading h) (beside h) refl refl g
-  where
-    by_read : (r : Result (Command × Option ℕ) CommandError) (more : Option Command) → reading h ≡ r → beside h ≡ more
-        → ◌≡◌ {A = Result (Command × Option ℕ) CommandError} (read_or r more) (Ok (WriteDma lba count, None))
-        → payload_length_in Field h ≡ 512 * count
-    by_read (Ok x) more is m k =
-        let w = read-write h lba count (fault_of h) (is ∙ k) in
-        ap (λ b. cond b (512 * short_sectors h) (payload_length h)) (no-short h.command w.code_is)
-        ∙ base-size h lba count (is ∙ k)
-    by_read (Err error) None is m k = absurd (not-ok k)
-    by_read (Err error) (Some c) is m k =
-        let w = short-write h lba count (m ∙ ap (λ x. Some x) (ok-command k)) in
-        ap (λ b. cond b (512 * short_sectors h) (payload_length h)) w.code ∙ ap (λ n. 512 * n) w.sectors_are
+write-size Field h lba count g = field-size h lba count (reading h) (beside h) refl refl g
+write-size Opal h lba count g = field-size h lba count (reading h) (beside h) refl refl g
 
 wrote-none : (f : Facts) (act : Act) (place lba : ℕ) (bytes : List ℕ) → IsFed f act → f.config.sectors ≤ place → (event_by f act).deed ≡ Wrote lba bytes → part_of place lba bytes ≡ None
 wrote-none f act place lba bytes fed le g =

@@ -1,7 +1,7 @@
 -- What is nowhere, after any acts: cells that no table has, bytes of the shadow past its table,
 -- responses on other ComIDs.
 use Rattle.basics.specs.declared.profile.Profile.{Profile}
-use Rattle.basics.specs.declared.profile.Profile.TheVariants.{Base, Field}
+use Rattle.basics.specs.declared.profile.Profile.TheVariants.{Base, Field, Opal}
 use Rattle.std.specs.Prelude.{◌≡◌, ℕ, ◌*◌, ◌≤◌, ◌<◌, false, List, [], ◌∷◌, length, None, Ok}
 use Rattle.sp_cells.specs.declared.names.Sp.{Sp}
 use Rattle.sp_cells.specs.declared.names.Uid.{Uid}
@@ -40,6 +40,7 @@ CellLaw =
 abbrev pub last_column : Profile → Column
 last_column Base = credential_column
 last_column Field = recommended_access_granularity_column
+last_column Opal = recommended_access_granularity_column
 
 abbrev pub HasNoColumn : Origin → Column → Type 0
 HasNoColumn o column = (sp : Sp) (object : Uid) → IsNowhere o sp object column

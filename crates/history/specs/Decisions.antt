@@ -1,6 +1,6 @@
 -- What an act does, by the facts (ACS-3, NCQ and trusted computing feature sets), whatever its items
 -- do. The order of the rules stands here once.
-use Rattle.basics.specs.declared.profile.Profile.TheVariants.{Base, Field}
+use Rattle.basics.specs.declared.profile.Profile.TheVariants.{Base, Field, Opal}
 use Rattle.basics.specs.declared.profile.Profile.{Profile}
 use Rattle.std.specs.Prelude.{ℕ, zero, suc, ◌+◌, ◌-◌, ◌*◌, ◌==◌, Bool, true, false, not, ◌&&◌, ◌||◌, nat_le, nat_lt, List, length, slice_index, Option, Some, None, is_some, Result, Ok, Err, if◌then◌else◌}
 use Rattle.fis.specs.Types.{h2d_type}
@@ -15,7 +15,7 @@ use Rattle.sp_cells.specs.Ranges.{number}
 use Rattle.sp_cells.specs.Resets.{programmatic}
 use Rattle.locking.specs.declared.range.Op.{Op}
 use Rattle.locking.specs.declared.range.Op.TheVariants.{Read, Write}
-use Rattle.trusted_cmds.specs.Commands.{is_queued, tag_of, sector_size, is_programmatic_reset, is_protocol_list}
+use Rattle.trusted_cmds.specs.Commands.{is_queued, tag_of, sector_size, is_programmatic_reset, is_protocol_list, is_certificate_data}
 use Rattle.audit.specs.declared.reason.Why.{Why}
 use Rattle.audit.specs.declared.rules.rule.Rule.{Rule}
 use Rattle.audit.specs.declared.rules.rule.Rule.TheVariants.{NoCommand, Unreadable, QueueFailed, Mixed, TagHeld, BeyondDrive, Protocol, ComId}
@@ -138,11 +138,17 @@ received com_id blocks None = did Nothing
 received com_id blocks (Some response) =
     if nat_le (length response) (sector_size * blocks) then did (Took com_id) else did Nothing
 
--- The field profile tells the list of security protocols too (SPC-4, SECURITY PROTOCOL IN): on its
--- ComID, 0000h, nothing waits.
+-- The field profile tells the list of security protocols too (SPC-4, SECURITY PROTOCOL IN), and the
+-- opal profile the certificates beside it: on their ComIDs, 0000h and 0001h, nothing waits.
+abbrev pub asks_certificates : Profile → Command → Bool
+asks_certificates Base command = false
+asks_certificates Field command = false
+asks_certificates Opal command = is_certificate_data command
+
 abbrev pub tells_protocols : Profile → Command → Bool
 tells_protocols Base command = false
 tells_protocols Field command = is_protocol_list command
+tells_protocols Opal command = is_protocol_list command || is_certificate_data command
 
 abbrev pub is_received : Facts → ℕ → ℕ → ℕ → Bool
 is_received f protocol com_id blocks =

@@ -7,7 +7,7 @@ use Rattle.sp_cells.specs.Config.{table_sectors}
 use Rattle.sp_cells.specs.Names.{c_pin_sid, tper_info, data_removal}
 use Rattle.sp_cells.specs.declared.names.Uid.{Uid}
 use Rattle.sp_cells.specs.declared.cells.Cell.{Cell}
-use Rattle.basics.specs.declared.profile.Profile.TheVariants.{Field}
+use Rattle.basics.specs.Profiles.{has_field}
 use Rattle.shadow_mbr.specs.declared.erasure.Erasure.{Erasure}
 use Rattle.methods.specs.Erasures.{erased_by_revert, erased_by_key, erased_by_revert_sp, is_wholly_locked}
 use Rattle.history.specs.Opening.{Origin}
@@ -51,20 +51,20 @@ pub record IsRevert (o : Origin) (past : List Event) (erasure : Erasure) : Type 
   pub outside : IsOutside past Admin
   pub erases : erasure ≡ erased_by_revert (in_force o past)
 
--- A RevertSP: of a session of the Locking SP, which it reverts, under the field profile. The ranges
+-- A RevertSP: of a session of the Locking SP, which it reverts, under each profile but the base one. The ranges
 -- that it erases are those before it, and it keeps no global range that is locked both ways.
 pub record IsRevertSp (o : Origin) (past : List Event) (sp : Sp) (erasure : Erasure) : Type 0 where
   pub outside : IsOutside past Locking
-  pub profile : o.tables.config.profile ≡ Field
+  pub profile : has_field o.tables.config.profile ≡ true
   pub reverts : sp ≡ Locking
   pub keep : Bool
   pub erases : erasure ≡ erased_by_revert_sp (in_force o past) keep
   pub unlocked : keep ≡ true → is_wholly_locked (in_force o past) ≡ false
 
--- A GenKey, of a session of the Locking SP, under the field profile.
+-- A GenKey, of a session of the Locking SP, under each profile but the base one.
 pub record IsNewKey (o : Origin) (past : List Event) (erasure : Erasure) : Type 0 where
   pub outside : IsOutside past Locking
-  pub profile : o.tables.config.profile ≡ Field
+  pub profile : has_field o.tables.config.profile ≡ true
   pub range : ℕ
   pub erases : erasure ≡ erased_by_key (in_force o past) range
 

@@ -13,7 +13,7 @@ use Rattle.methods.specs.Judgement.{asked, does}
 use Rattle.history.specs.Facts.{Facts, session_named, standing}
 use Rattle.history.specs.Decisions.{is_trusted, is_session_com_id}
 use Rattle.history.specs.Looked.{IsLookedAtBy}
-use Rattle.history.specs.Tcg.{answers, is_manager, judgement_on, tcg, item_in}
+use Rattle.history.specs.Tcg.{is_sent, answers, is_manager, judgement_on, tcg, item_in}
 use Rattle.methods.specs.Calls.{outcome_of}
 use Rattle.history.specs.History.{Act, event_by}
 
@@ -21,14 +21,13 @@ use Rattle.history.specs.History.{Act, event_by}
 abbrev pub IsLookedAt : Facts → Act → Command → Option ℕ → Type 0
 IsLookedAt = IsLookedAtBy tcg
 
--- An act sends a frame on its ComID, on which no response waits: it is taken.
+-- An act sends a frame on its ComID, on which no response waits, and which it fits: it is taken.
 pub record IsSent (f : Facts) (act : Act) (com_id : ℕ) (frame : Frame) : Type 0 where
   pub protocol : ℕ
   pub blocks : ℕ
   pub dma : Bool
   pub looked : IsLookedAt f act (Send protocol com_id blocks dma) None
-  pub taken : (is_trusted protocol blocks && is_session_com_id com_id
-      && not (is_some (f.waiting com_id))) ≡ true
+  pub taken : is_sent f protocol com_id blocks ≡ true
   pub framed : frame_in looked.payload ≡ Ok frame
   pub addressed : (frame.com_id == com_id) ≡ true
 

@@ -1,9 +1,10 @@
 -- What the items of this drive do and give, by the facts: the session manager, sessions, responses
 -- (Core 2.01, chapter 3; Opal SSC 2.01, section 3.1.1, Level 0 discovery).
-use Rattle.basics.specs.declared.profile.Profile.TheVariants.{Base, Field}
+use Rattle.basics.specs.declared.profile.Profile.TheVariants.{Base, Field, Opal}
+use Rattle.basics.specs.Profiles.{has_field}
 use Rattle.basics.specs.declared.profile.Profile.{Profile}
 use Rattle.tcg_tokens.specs.Lex.{begins_with_end}
-use Rattle.device_data.specs.Protocols.{protocol_list}
+use Rattle.device_data.specs.Protocols.{protocol_list, certificate_data}
 use Rattle.trusted_cmds.specs.Commands.{is_protocol_list}
 use Rattle.trusted_cmds.specs.BlockSid.{is_block_sid, block_asked, is_blocked}
 use Rattle.device_data.specs.DevicePages.{device_log}
@@ -38,8 +39,8 @@ use Rattle.sessions.specs.declared.opening.StartVerdict.TheVariants.{Refused, At
 use Rattle.sessions.specs.Gains.{first_held}
 use Rattle.sessions.specs.Starts.{opening_of, verdict, host_of, reply_to, denied_with, rule_of}
 use Rattle.audit.specs.declared.rules.rule.Rule.{Rule}
-use Rattle.audit.specs.declared.rules.rule.Rule.TheVariants.{NoMethod, NoItem, AlreadyOpen, NoneOpen, NoSession, NoFrame, SidKept, Protocol, ComId, ResponseWaits}
-use Rattle.sessions.specs.Properties.{properties_message}
+use Rattle.audit.specs.declared.rules.rule.Rule.TheVariants.{NoMethod, NoItem, AlreadyOpen, NoneOpen, NoSession, NoFrame, SidKept, LongTransfer, Protocol, ComId, ResponseWaits}
+use Rattle.sessions.specs.Properties.{max_com_packet_size, properties_message}
 use Rattle.methods.specs.Said.{refusal_of}
 use Rattle.methods.specs.Judgement.{Judgement, asked, judged}
 use Rattle.methods.specs.Calls.{outcome_of}
@@ -50,7 +51,7 @@ use Rattle.device_data.specs.Identity.{identity_of}
 use Rattle.device_data.specs.ErrorLog.{sized}
 use Rattle.shadow_mbr.specs.Stored.{sector_size}
 use Rattle.history.specs.Items.{Items}
-use Rattle.history.specs.Decisions.{refuses, is_session_com_id, discovery_com_id, is_trusted, unqueued_of, known_of, commanded_of, accepted_of}
+use Rattle.history.specs.Decisions.{refuses, is_session_com_id, discovery_com_id, is_trusted, asks_certificates, unqueued_of, known_of, commanded_of, accepted_of}
 use Rattle.history.specs.Answers.{block_of, data_read_of, answer_data_of, accepted_data_of, answer_fises_of, accepted_fises_of}
 
 -- Items.
@@ -148,11 +149,10 @@ in_session f session (Err e) = refuses_item (refusal_of fail) NoItem
 abbrev pub is_manager : Session → Bool
 is_manager session = session.tsn == 0 && session.hsn == 0
 
--- What a payload has for a session: under the field profile it ends the session where its first token
+-- What a payload has for a session: under each profile but the base one it ends the session where its first token
 -- says so, whatever follows.
 abbrev pub ends_session : Profile → List ℕ → Bool
-ends_session Base payload = false
-ends_session Field payload = begins_with_end payload
+ends_session profile payload = has_field profile && begins_with_end payload
 
 abbrev pub item_in : Profile → List ℕ → Result Message TokenError
 item_in profile payload =
@@ -182,17 +182,34 @@ blocks_sid f payload =
     if has_owner f.rows || is_blocked f.block
     then refuses SidKept else did (BlockedSid (block_asked payload))
 
--- Why a send is refused: its protocol and its blocks, its ComID, or that a response waits there.
-abbrev pub unsent : ℕ → ℕ → ℕ → Rule
-unsent protocol com_id blocks =
-    if not (is_trusted protocol blocks) then Protocol
-    else (if not (is_session_com_id com_id) then ComId else ResponseWaits)
+-- Under the opal profile a send has no more bytes than the largest ComPacket (Core 2.01, section 3.3.10, MaxComPacketSize;
+-- SIIS, invalid transfer length).
+abbrev pub takes_blocks : Profile → ℕ → Bool
+takes_blocks Base blocks = true
+takes_blocks Field blocks = true
+takes_blocks Opal blocks = nat_le (sector_size * blocks) max_com_packet_size
 
--- A send while a response waits is aborted.
+-- Why a send is refused: its protocol and its blocks, its ComID, that a response waits there, or its length.
+abbrev pub unsent : Bool → ℕ → ℕ → ℕ → Rule
+unsent waits protocol com_id blocks =
+    if not (is_trusted protocol blocks) then Protocol
+    else (if not (is_session_com_id com_id) then ComId
+    else (if waits then ResponseWaits else LongTransfer))
+
+-- A send while a response waits is aborted, and one that is too long.
+abbrev pub is_free_for : Facts → ℕ → ℕ → Bool
+is_free_for f com_id blocks =
+    takes_blocks f.config.profile blocks && not (is_some (f.waiting com_id))
+
+abbrev pub is_sent : Facts → ℕ → ℕ → ℕ → Bool
+is_sent f protocol com_id blocks =
+    is_trusted protocol blocks && is_session_com_id com_id && is_free_for f com_id blocks
+
 abbrev pub send_item : Facts → ℕ → ℕ → ℕ → List ℕ → Event
 send_item f protocol com_id blocks payload =
-    if is_trusted protocol blocks && is_session_com_id com_id && not (is_some (f.waiting com_id))
-    then sent f com_id (frame_in payload) else refuses (unsent protocol com_id blocks)
+    if is_sent f protocol com_id blocks
+    then sent f com_id (frame_in payload)
+    else refuses (unsent (is_some (f.waiting com_id)) protocol com_id blocks)
 
 abbrev pub send : Facts → ℕ → ℕ → ℕ → List ℕ → Event
 send f protocol com_id blocks payload =
@@ -213,12 +230,19 @@ receive_data f com_id room =
     then sized room (discovery_of f.config.profile f.rows f.block)
     else sized room (received_bytes com_id room (f.waiting com_id))
 
+-- The certificates, of the opal profile, and else what waits on a ComID.
+abbrev pub certificates_or : Bool → Facts → ℕ → ℕ → List ℕ
+certificates_or true f com_id room = sized room certificate_data
+certificates_or false f com_id room = receive_data f com_id room
+
 -- The data of a receive, of IDENTIFY DEVICE, and of the pages that tell of the device.
 abbrev pub item_data : Facts → Command → List ℕ
 item_data f (Receive protocol com_id blocks dma) =
     if is_protocol_list (Receive protocol com_id blocks dma)
     then sized (sector_size * blocks) protocol_list
-    else receive_data f com_id (sector_size * blocks)
+    else certificates_or
+    (asks_certificates f.config.profile (Receive protocol com_id blocks dma))
+    f com_id (sector_size * blocks)
 item_data f Identify = identity_of f.config f.settings
 item_data f (ReadLog pages dma) = device_log f.config f.settings pages
 item_data f _ = []

@@ -1,7 +1,7 @@
 -- Each method of the access list has a case, and each cell of a new drive stands in a column of its kind.
 use Rattle.std.proofs.Common.{◌≡◌, ◌==◌, ◌&&◌, ◌||◌, ◌-◌, ◌^◌, ℕ, Bool, true, false, List, [], ◌∷◌, Option, None, Some, is_some, option_map, refl, ap, sym, subst, ◌∙◌, if◌then◌else◌, inl, inr}
 use Rattle.basics.specs.declared.profile.Profile.{Profile}
-use Rattle.basics.specs.declared.profile.Profile.TheVariants.{Base, Field}
+use Rattle.basics.specs.declared.profile.Profile.TheVariants.{Base, Field, Opal}
 use Rattle.sp_cells.specs.Names.{uid, none, col, get, set, authenticate, activate, revert, gen_key, revert_sp}
 use Rattle.std.specs.List.{list_all, list_any}
 use Rattle.std.proofs.lemmas.Bool.Decides.{eqb_tells}
@@ -51,6 +51,10 @@ sketch Other = Other
 abbrev sketch_of_other : Profile → Uid → Ask
 sketch_of_other Base method = Other
 sketch_of_other Field method =
+    if method.0 == gen_key.0 then GenKey else
+    if method.0 == revert_sp.0 then RevertSp false else
+    Other
+sketch_of_other Opal method =
     if method.0 == gen_key.0 then GenKey else
     if method.0 == revert_sp.0 then RevertSp false else
     Other
@@ -312,6 +316,9 @@ other_fits Base method args = refl
 other_fits Field method args =
     either (method.0 == gen_key.0) _ _ _ _ (without_fits GenKey args)
     (either (method.0 == revert_sp.0) _ _ _ _ (keep_fits (options (keep_global_range_key_parameter ∷ []) args)) refl)
+other_fits Opal method args =
+    either (method.0 == gen_key.0) _ _ _ _ (without_fits GenKey args)
+    (either (method.0 == revert_sp.0) _ _ _ _ (keep_fits (options (keep_global_range_key_parameter ∷ []) args)) refl)
 
 asked_fits : (profile : Profile) (sp : Sp) (object method : Uid) (args : List Tree) → Fits (ask_of profile sp object method args) (sketch_of profile sp object method)
 asked_fits profile sp object method args =
@@ -337,6 +344,7 @@ all_covered : (profile : Profile) → list_all (covered profile) (access_list pr
 unfolding covered authorities_of_locking this_sp_grants owner_grants label_grants removal_grants authority_grants fixed_ace_gets user_ace_grants range_get_ace_grants gen_key_ace_grants read_locked_ace_grants write_locked_ace_grants done_ace_grants pin_grants range_get_grants range_set_grants mbr_grants info_grants datastore_grants key_grants
 all_covered Base = refl
 all_covered Field = refl
+all_covered Opal = refl
 
 clash : false ≡ true → ⊥
 clash h = cc
@@ -409,6 +417,8 @@ stand_new Base msid psid sizes Admin = refl
 stand_new Base msid psid sizes Locking = refl
 stand_new Field msid psid sizes Admin = refl
 stand_new Field msid psid sizes Locking = refl
+stand_new Opal msid psid sizes Admin = refl
+stand_new Opal msid psid sizes Locking = refl
 
 all_stand : (config : Config) (sp : Sp) → list_all (stands config.profile sp) (new_cells config sp) ≡ true
 unfolding items_new
@@ -421,6 +431,8 @@ whole_new Base msid psid sizes Admin = refl
 whole_new Base msid psid sizes Locking = refl
 whole_new Field msid psid sizes Admin = refl
 whole_new Field msid psid sizes Locking = refl
+whole_new Opal msid psid sizes Admin = refl
+whole_new Opal msid psid sizes Locking = refl
 
 all_whole : (config : Config) (sp : Sp) → are_whole config.profile sp (new_cells config sp) ≡ true
 unfolding items_new

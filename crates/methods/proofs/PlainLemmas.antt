@@ -4,7 +4,7 @@ use Rattle.std.specs.Prelude.{◌≢◌, ◌^◌, nat_le, nat_lt}
 use Rattle.std.proofs.lemmas.Bool.{le-leb, lt-ltb}
 use Rattle.std.proofs.lemmas.List.{append-nil}
 use Rattle.basics.specs.declared.profile.Profile.{Profile}
-use Rattle.basics.specs.declared.profile.Profile.TheVariants.{Base, Field}
+use Rattle.basics.specs.declared.profile.Profile.TheVariants.{Base, Field, Opal}
 use Rattle.sp_cells.specs.declared.names.Uid.{Uid}
 use Rattle.sp_cells.specs.declared.names.Sp.{Sp}
 use Rattle.sp_cells.specs.declared.names.Sp.TheVariants.{Admin, Locking}
@@ -59,8 +59,10 @@ plain_read o m x y eo em lx ly =
 no_bytes : (profile : Profile) (sp : Sp) (object : Uid) → object ≢ mbr_table → object ≢ datastore_table → is_byte_table profile sp object ≡ false
 no_bytes Base Admin object h k = refl
 no_bytes Field Admin object h k = refl
+no_bytes Opal Admin object h k = refl
 no_bytes Base Locking object h k = search rules
 no_bytes Field Locking object h k = search rules
+no_bytes Opal Locking object h k = search rules
 
 get_asks : (x y : ℕ) → x ≤ y → get_of false (values_of (columns_named x y)) ≡ Some (GetCells x y)
 get_asks x y h = let e : nat_le x y ≡ true = le-leb _ _ h in rw e refl

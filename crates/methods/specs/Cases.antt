@@ -37,7 +37,7 @@ new_cells config sp = items_of (factory_contents config) sp
 abbrev pub HasCell : List Item → Uid → Column → Type 0
 HasCell items object k = is_some (item_at items object k) ≡ true
 
--- the columns of a kind in a drive of this profile: keys of ranges are Field's
+-- the columns of a kind in a drive of this profile: keys of ranges are not Base's
 abbrev pub columns_under : Profile → Option Kind → List Column
 columns_under Base (Some kinds.Locking) = columns_in locking_types
 columns_under _ kind = columns_of kind

@@ -1,5 +1,5 @@
 -- The bytes of the FISes that the port sends, and what the drive reads in them.
-use Rattle.basics.specs.declared.profile.Profile.TheVariants.{Base, Field}
+use Rattle.basics.specs.declared.profile.Profile.TheVariants.{Base, Field, Opal}
 use Rattle.basics.specs.declared.profile.Profile.{Profile}
 use Rattle.trusted_cmds.specs.Profiles.{payload_length_in, short_write_dma, short_sectors}
 use Rattle.sp_cells.specs.Config.{Config}
@@ -247,6 +247,10 @@ any-profile : (p : Profile) (command : Command) (tag : ℕ)
     → payload_length_in p (fis_of command tag) ≡ payload_length (fis_of command tag)
 any-profile Base command tag = refl
 any-profile Field command tag =
+    ap
+    (λ (b : Bool). cond b (sector_size * short_sectors (fis_of command tag)) (payload_length (fis_of command tag)))
+    (not-short command tag)
+any-profile Opal command tag =
     ap
     (λ (b : Bool). cond b (sector_size * short_sectors (fis_of command tag)) (payload_length (fis_of command tag)))
     (not-short command tag)

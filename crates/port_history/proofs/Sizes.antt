@@ -1,8 +1,8 @@
 -- How many bytes the drive gives.
 use Rattle.trusted_cmds.specs.Commands.{is_protocol_list, pages_asked}
-use Rattle.device_data.specs.Protocols.{protocol_list}
+use Rattle.device_data.specs.Protocols.{protocol_list, certificate_data}
 use Rattle.sp_cells.specs.Config.{Config}
-use Rattle.basics.specs.declared.profile.Profile.TheVariants.{Base, Field}
+use Rattle.basics.specs.declared.profile.Profile.TheVariants.{Base, Field, Opal}
 use Rattle.basics.specs.declared.profile.Profile.{Profile}
 use Rattle.device_data.specs.DevicePages.{directory_head, page_list_head, security_head, page_head as page_head_of, identify_page, device_log}
 use Rattle.device_data.specs.declared.settings.Settings.{Settings}
@@ -14,7 +14,7 @@ use Rattle.std.specs.List.{flat_map}
 use Rattle.std.proofs.lemmas.List.{length-take, length-take-le, length-drop, length-append, length-replicate}
 use Rattle.std.proofs.lemmas.Bool.Decides.{nat_tests}
 use Rattle.device_data.specs.ErrorLog.{sized, error_log, page_head}
-use Rattle.device_data.specs.Identity.{identity, identify_word, low_first, run_from, identity_in, identity_of, field_word}
+use Rattle.device_data.specs.Identity.{identity, identify_word, low_first, run_from, identity_in, identity_of, field_word, field_identity}
 use Rattle.device_data.specs.Discovery.{discovery_of}
 use Rattle.device_data.specs.declared.log_page.Failure.{Failure}
 use Rattle.shadow_mbr.specs.Stored.{zeros, sectors_from}
@@ -29,9 +29,9 @@ use Rattle.sessions.specs.Deeds.{erased_by}
 use Rattle.shadow_mbr.specs.Erasure.{is_erased}
 use Rattle.history.specs.Readers.{part_of, writing, sector}
 use Rattle.history.specs.Facts.{Facts}
-use Rattle.history.specs.Decisions.{verdict_on, discovery_com_id}
+use Rattle.history.specs.Decisions.{verdict_on, discovery_com_id, asks_certificates}
 use Rattle.history.specs.Answers.{read_by, held_data}
-use Rattle.history.specs.Tcg.{received_bytes, receive_data, data_of}
+use Rattle.history.specs.Tcg.{received_bytes, receive_data, certificates_or, data_of}
 use Rattle.port_history.specs.Requests.{bytes_moved}
 
 -- sectors
@@ -130,10 +130,11 @@ length-received f com_id room =
     by_test true = length-sized room (discovery_of f.config.profile f.rows f.block)
     by_test false = length-sized room (received_bytes com_id room (f.waiting com_id))
 
-length-told : (list : Bool) (f : Facts) (com_id room : ℕ)
-    → length (if list then sized room protocol_list else receive_data f com_id room) ≡ room
-length-told true f com_id room = length-sized room protocol_list
-length-told false f com_id room = length-received f com_id room
+length-told : (list certificates : Bool) (f : Facts) (com_id room : ℕ)
+    → length (if list then sized room protocol_list else certificates_or certificates f com_id room) ≡ room
+length-told true certificates f com_id room = length-sized room protocol_list
+length-told false true f com_id room = length-sized room certificate_data
+length-told false false f com_id room = length-received f com_id room
 
 length-words : (word : ℕ → ℕ) (xs : List ℕ)
     → length (flat_map (λ x. low_first (word x)) xs) ≡ 2 * length xs
@@ -149,11 +150,15 @@ length-identity sectors =
     length-words (identify_word sectors) (run_from 0 256)
     ∙ ap (λ (n : ℕ). 2 * n) (length-run 0 256)
 
-length-known : (p : Profile) (config : Config) (settings : Settings) → length (identity_in p config settings) ≡ 512
-length-known Base config settings = length-identity config.sectors
-length-known Field config settings =
+length-field : (config : Config) (settings : Settings) → length (field_identity config settings) ≡ 512
+length-field config settings =
     length-words (field_word config settings) (run_from 0 256)
     ∙ ap (λ (n : ℕ). 2 * n) (length-run 0 256)
+
+length-known : (p : Profile) (config : Config) (settings : Settings) → length (identity_in p config settings) ≡ 512
+length-known Base config settings = length-identity config.sectors
+length-known Field config settings = length-field config settings
+length-known Opal config settings = length-field config settings
 
 -- each page has 512 bytes
 length-page : (config : Config) (settings : Settings) (page : ℕ) → length (identify_page config settings page) ≡ 512
@@ -211,7 +216,8 @@ data-fits f (Send protocol com_id blocks dma) whole = omega arith
 data-fits f (Receive protocol com_id blocks dma) whole =
     omega (
       arith,
-      length-told (is_protocol_list (Receive protocol com_id blocks dma)) f com_id (512 * blocks),
+      length-told (is_protocol_list (Receive protocol com_id blocks dma))
+      (asks_certificates f.config.profile (Receive protocol com_id blocks dma)) f com_id (512 * blocks),
     )
 data-fits f Identify whole = omega (arith, length-known f.config.profile f.config f.settings)
 data-fits f (ReadLog10 dma) whole = omega (arith, length-log f.failure)

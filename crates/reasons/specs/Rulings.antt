@@ -4,11 +4,12 @@
 --   because Level 0 discovery, ComID 0001h, is received and takes no send
 --   because a response carries at most 65480 bytes of tokens
 --   because security protocol 00h is its list alone: a receive, SP Specific 0000h, one block or more
+--   because security protocol 00h is its list and the certificates: a receive, SP Specific 0000h or 0001h, one block or more
 --   because TPerInfo ProgrammaticResetEnable = 0
 --   lifted by: Set of TPerInfo ProgrammaticResetEnable = 1 by SID (ACE_TPerInfo_Set_ProgrammaticResetEnable)
 use Rattle.std.specs.Prelude.{◌≡◌, ℕ, ◌==◌, Bool, true, false, ◌&&◌, List, [], ◌∷◌, ◌++◌, Option, None, Some, codes, decimal, Result, Ok, Err, if◌then◌else◌}
 use Rattle.basics.specs.declared.profile.Profile.{Profile}
-use Rattle.basics.specs.declared.profile.Profile.TheVariants.{Base, Field}
+use Rattle.basics.specs.declared.profile.Profile.TheVariants.{Base, Field, Opal}
 use Rattle.fis.specs.declared.h2d.RegH2d.{RegH2d}
 use Rattle.sp_cells.specs.declared.names.Sp.TheVariants.{Admin}
 use Rattle.sp_cells.specs.Names.{tper_info}
@@ -28,7 +29,7 @@ use Rattle.history.specs.Tcg.{unqueued}
 use Rattle.reasons.specs.Called.{called_object, called_column}
 use Rattle.reasons.specs.Remedies.{set_text}
 use Rattle.reasons.specs.declared.rulings.Matter.{Matter}
-use Rattle.reasons.specs.declared.rulings.Matter.TheVariants.{Reset, OtherThanList, SendToDiscovery, LongResponse, Plain}
+use Rattle.reasons.specs.declared.rulings.Matter.TheVariants.{Reset, OtherThanList, OtherThanCertificates, SendToDiscovery, LongResponse, Plain}
 
 -- by security protocol 00h
 abbrev pub is_by_protocol_0 : Command → Bool
@@ -36,9 +37,11 @@ is_by_protocol_0 (Send protocol sp_specific blocks dma) = protocol == 0
 is_by_protocol_0 (Receive protocol sp_specific blocks dma) = protocol == 0
 is_by_protocol_0 _ = false
 
-abbrev pub has_protocol_list : Profile → Bool
-has_protocol_list Base = false
-has_protocol_list Field = true
+-- something else than what security protocol 00h tells on a drive of this profile
+abbrev pub other_than_told : Profile → Matter
+other_than_told Base = Plain
+other_than_told Field = OtherThanList
+other_than_told Opal = OtherThanCertificates
 
 abbrev pub is_send_to_discovery : Command → Bool
 is_send_to_discovery (Send protocol sp_specific blocks dma) = sp_specific == discovery_com_id
@@ -48,7 +51,7 @@ is_send_to_discovery _ = false
 abbrev pub matter_of_protocol : Profile → Command → Matter
 matter_of_protocol profile command =
     if is_programmatic_reset command then Reset
-    else (if has_protocol_list profile && is_by_protocol_0 command then OtherThanList else Plain)
+    else (if is_by_protocol_0 command then other_than_told profile else Plain)
 
 abbrev pub matter_of_com_id : Command → Matter
 matter_of_com_id command = if is_send_to_discovery command then SendToDiscovery else Plain
@@ -82,6 +85,10 @@ abbrev pub list_words : List ℕ
 list_words =
     codes "security protocol 00h is its list alone: a receive, SP Specific 0000h, one block or more"
 
+abbrev pub certificate_words : List ℕ
+certificate_words =
+    codes "security protocol 00h is its list and the certificates: a receive, SP Specific 0000h or 0001h, one block or more"
+
 abbrev pub discovery_words : List ℕ
 discovery_words = codes "Level 0 discovery, ComID 0001h, is received and takes no send"
 
@@ -92,6 +99,7 @@ long_words =
 abbrev pub matter_text : Profile → LookUp → Rule → Matter → List ℕ
 matter_text profile look rule Reset = no_reset_text profile look
 matter_text profile look rule OtherThanList = because_text list_words
+matter_text profile look rule OtherThanCertificates = because_text certificate_words
 matter_text profile look rule SendToDiscovery = because_text discovery_words
 matter_text profile look rule LongResponse = because_text long_words
 matter_text profile look rule Plain = because_text (rule_words rule)

@@ -1,7 +1,7 @@
 //! Why a rule refused a command, in words: by what a trusted command asked for, or else by the rule.
 
 ghost use Rattle.std.specs.Prelude.{◌≡◌, ◌++◌, IfOk, OnOk};
-ghost use Rattle.reasons.specs.Rulings.{is_by_protocol_0, has_protocol_list, is_send_to_discovery, matter_of_protocol, matter_of_com_id, matter_of, matter_at, because_text, no_reset_words, no_reset_text, long_words, matter_text, rule_text, ruled_text, command_carried, ResetRuleLaw};
+ghost use Rattle.reasons.specs.Rulings.{is_by_protocol_0, other_than_told, is_send_to_discovery, matter_of_protocol, matter_of_com_id, matter_of, matter_at, because_text, no_reset_words, no_reset_text, long_words, matter_text, rule_text, ruled_text, command_carried, ResetRuleLaw};
 
 use crate::remedies::{append_column_name, append_object_name, append_set};
 use audit::rules::{Rule, rule_words};
@@ -23,6 +23,8 @@ pub enum Matter {
     Reset,
     /// Something else than the list of security protocols, of a drive that has the list.
     OtherThanList,
+    /// Something else than that list and the certificates, of a drive that tells both.
+    OtherThanCertificates,
     /// A send to the ComID of Level 0 discovery.
     SendToDiscovery,
     /// More than a response carries.
@@ -41,13 +43,14 @@ fn is_by_protocol_0(command: &Command) -> bool
     }
 }
 
-/// Whether a drive of this profile has the list of security protocols.
-fn has_protocol_list(profile: Profile) -> bool
-    ensures { result ≡ has_protocol_list profile }
+/// Something else than what security protocol 00h tells on a drive of this profile.
+fn other_than_told(profile: Profile) -> Matter
+    ensures { result ≡ other_than_told profile }
 {
     match profile {
-        Profile::Base => false,
-        Profile::Field => true,
+        Profile::Base => Matter::Plain,
+        Profile::Field => Matter::OtherThanList,
+        Profile::Opal => Matter::OtherThanCertificates,
     }
 }
 
@@ -67,8 +70,8 @@ fn matter_of_protocol(profile: Profile, command: &Command) -> Matter
 {
     if is_programmatic_reset(command) {
         Matter::Reset
-    } else if has_protocol_list(profile) && is_by_protocol_0(command) {
-        Matter::OtherThanList
+    } else if is_by_protocol_0(command) {
+        other_than_told(profile)
     } else {
         Matter::Plain
     }
@@ -190,6 +193,10 @@ fn append_matter<R: Rows>(
         Matter::OtherThanList => append_because(
             text,
             b"security protocol 00h is its list alone: a receive, SP Specific 0000h, one block or more",
+        ),
+        Matter::OtherThanCertificates => append_because(
+            text,
+            b"security protocol 00h is its list and the certificates: a receive, SP Specific 0000h or 0001h, one block or more",
         ),
         Matter::SendToDiscovery => append_because(
             text,

@@ -1,12 +1,12 @@
 -- What a drive is made with, and the limits of it.
-use Rattle.std.specs.Prelude.{◌≡◌, ◌≤◌, ℕ, List, length, Bool, true, ◌&&◌, nat_le, codes}
+use Rattle.std.specs.Prelude.{◌≡◌, ◌≤◌, ℕ, List, length, Bool, true, ◌&&◌, ◌==◌, nat_le, codes}
 use Rattle.std.specs.List.{list_all}
 use Rattle.basics.specs.Addresses.{address_limit}
 use Rattle.basics.specs.declared.profile.Profile.{Profile}
-use Rattle.basics.specs.declared.profile.Profile.TheVariants.{Base, Field}
+use Rattle.basics.specs.declared.profile.Profile.TheVariants.{Base, Field, Opal}
 use Rattle.sp_cells.specs.declared.byte_tables.TableSizes.{TableSizes}
 use Rattle.sp_cells.specs.ByteTables.{sectors_of}
-use Rattle.sp_cells.specs.Limits.{most_mbr_sectors, most_datastore_bytes, new_datastore_bytes, most_pin_bytes, most_serial_bytes, most_model_bytes}
+use Rattle.sp_cells.specs.Limits.{most_mbr_sectors, most_datastore_bytes, new_datastore_bytes, opal_mbr_sectors, least_opal_datastore_bytes, most_pin_bytes, most_serial_bytes, most_model_bytes}
 
 -- the sectors of the drive, those that can be shadowed, the PIN of a new drive's owner, and the profile with the names
 -- that the drive tells under it, with the PIN on its label and the bytes of its DataStore
@@ -28,6 +28,24 @@ pub record IsWithinLimits (sectors mbr_sectors : ℕ) (msid : List ℕ) : Type 0
   pub shadow_within : mbr_sectors ≤ sectors
   pub some_byte : 1 ≤ length msid
   pub msid_short : length msid ≤ most_pin_bytes
+
+-- the shadow has as many sectors as the profile asks for: an Opal drive's are told (Opal SSC 2.01, section 4.3.5.4)
+abbrev pub is_own_shadow : Profile → ℕ → Bool
+is_own_shadow Base mbr_sectors = true
+is_own_shadow Field mbr_sectors = true
+is_own_shadow Opal mbr_sectors = mbr_sectors == opal_mbr_sectors
+
+abbrev pub HasOwnShadow : Profile → ℕ → Type 0
+HasOwnShadow profile mbr_sectors = is_own_shadow profile mbr_sectors ≡ true
+
+-- DataStore has at least as many bytes as the profile asks for (Opal SSC 2.01, section 4.3.8.1)
+abbrev pub is_own_store : Profile → ℕ → Bool
+is_own_store Base datastore = true
+is_own_store Field datastore = true
+is_own_store Opal datastore = nat_le least_opal_datastore_bytes datastore
+
+abbrev pub HasOwnStore : Profile → ℕ → Type 0
+HasOwnStore profile datastore = is_own_store profile datastore ≡ true
 
 -- a name is printable ASCII (ACS-3, IDENTIFY DEVICE data, "ATA strings")
 abbrev pub is_printable : ℕ → Bool
@@ -59,10 +77,11 @@ new_model = codes "Opalport"
 abbrev pub new_psid : List ℕ
 new_psid = codes "the PSID of the label"
 
--- and the bytes of its DataStore, which is Field's
+-- and the bytes of its DataStore, which Base has not
 abbrev pub new_datastore : Profile → ℕ
 new_datastore Base = 0
 new_datastore Field = new_datastore_bytes
+new_datastore Opal = least_opal_datastore_bytes
 
 abbrev pub config_in : Profile → ℕ → ℕ → List ℕ → Config
 config_in profile sectors mbr_sectors msid = record {
@@ -81,6 +100,9 @@ base_config sectors mbr_sectors msid = config_in Base sectors mbr_sectors msid
 
 abbrev pub field_config : ℕ → ℕ → List ℕ → Config
 field_config sectors mbr_sectors msid = config_in Field sectors mbr_sectors msid
+
+abbrev pub opal_config : ℕ → ℕ → List ℕ → Config
+opal_config sectors mbr_sectors msid = config_in Opal sectors mbr_sectors msid
 
 -- the same drive with other names
 abbrev pub named_config : Config → List ℕ → List ℕ → Config

@@ -12,6 +12,14 @@ most_datastore_bytes = 16777216
 abbrev pub new_datastore_bytes : ℕ
 new_datastore_bytes = 4096
 
+-- the sectors of the shadow MBR of an Opal drive, which has 08000000h bytes at least, and the least bytes of its DataStore,
+-- 00A00000h (Opal SSC 2.01, sections 4.3.5.4 and 4.3.8.1)
+abbrev pub opal_mbr_sectors : ℕ
+opal_mbr_sectors = 262144
+
+abbrev pub least_opal_datastore_bytes : ℕ
+least_opal_datastore_bytes = 10485760
+
 -- the bytes of a PIN (Core 2.01, section 5.3, table C_PIN)
 abbrev pub most_pin_bytes : ℕ
 most_pin_bytes = 32

@@ -2,13 +2,14 @@
 
 ghost use Rattle.std.specs.Prelude.{◌≡◌, ◌≤◌, ◌<◌, ◌^◌, List, length, IfOk, SomeIff};
 ghost use Rattle.std.specs.List.{list_all};
-ghost use Rattle.sp_cells.specs.Config.{Config, IsWithinLimits, IsAtaText, AreNames, IsLabel, is_printable, new_serial, new_model, new_psid, new_datastore, config_in, base_config, field_config, named_config, labelled_config, stored_config, sizes_in};
+ghost use Rattle.sp_cells.specs.Config.{Config, IsWithinLimits, HasOwnShadow, HasOwnStore, is_own_shadow, is_own_store, IsAtaText, AreNames, IsLabel, is_printable, new_serial, new_model, new_psid, new_datastore, config_in, base_config, field_config, opal_config, named_config, labelled_config, stored_config, sizes_in};
+ghost use Rattle.basics.specs.declared.profile.Profile.TheVariants.{Opal};
 ghost use Rattle.sp_cells.specs.Limits.{most_mbr_sectors, most_datastore_bytes, most_pin_bytes, most_serial_bytes, most_model_bytes};
 
 use crate::byte_tables::TableSizes;
 use crate::limits::{
-    MOST_DATASTORE_BYTES, MOST_MBR_SECTORS, MOST_MODEL_BYTES, MOST_PIN_BYTES, MOST_SERIAL_BYTES,
-    NEW_DATASTORE_BYTES,
+    LEAST_OPAL_DATASTORE_BYTES, MOST_DATASTORE_BYTES, MOST_MBR_SECTORS, MOST_MODEL_BYTES, MOST_PIN_BYTES, MOST_SERIAL_BYTES,
+    NEW_DATASTORE_BYTES, OPAL_MBR_SECTORS,
 };
 use arrayvec::ArrayVec;
 use basics::{ADDRESS_LIMIT, Profile};
@@ -39,7 +40,7 @@ pub struct DriveConfig {
 
 impl Model for DriveConfig {
     ghost use Rattle.std.specs.Prelude.{◌≤◌};
-    ghost use Rattle.sp_cells.specs.Config.{Config, IsWithinLimits, AreNames, IsLabel};
+    ghost use Rattle.sp_cells.specs.Config.{Config, IsWithinLimits, HasOwnShadow, HasOwnStore, AreNames, IsLabel};
     ghost use Rattle.sp_cells.specs.Limits.{most_datastore_bytes};
 
     ghost Value = { Config };
@@ -57,7 +58,8 @@ impl Model for DriveConfig {
 
     ghost invariant = { λ c. IsWithinLimits c.sectors c.mbr_sectors c.msid.items
         × AreNames c.serial.items c.model.items × IsLabel c.psid.items
-        × (c.datastore ≤ most_datastore_bytes) };
+        × (c.datastore ≤ most_datastore_bytes)
+        × HasOwnShadow c.profile c.mbr_sectors × HasOwnStore c.profile c.datastore };
 }
 
 impl DriveConfig {
@@ -78,20 +80,34 @@ impl DriveConfig {
         DriveConfig::of_profile(Profile::Field, sectors, mbr_sectors, msid)
     }
 
-    /// A drive of this profile, with the same limits.
+    /// A drive of the profile `Opal`, with the same limits, of which exactly 262,144 sectors can be shadowed.
+    pub fn opal(sectors: u64, mbr_sectors: u64, msid: &[u8]) -> Option<DriveConfig>
+        ensures { SomeIff result
+            (IsWithinLimits sectors mbr_sectors msid.now × HasOwnShadow Opal mbr_sectors)
+            (opal_config sectors mbr_sectors msid.now) }
+    {
+        DriveConfig::of_profile(Profile::Opal, sectors, mbr_sectors, msid)
+    }
+
+    /// A drive of this profile, with the same limits. None also where the profile is `Opal`, and the sectors that can be
+    /// shadowed are not 262,144.
     pub fn of_profile(
         profile: Profile,
         sectors: u64,
         mbr_sectors: u64,
         msid: &[u8],
     ) -> Option<DriveConfig>
-        ensures { SomeIff result (IsWithinLimits sectors mbr_sectors msid.now)
+        ensures { SomeIff result
+            (IsWithinLimits sectors mbr_sectors msid.now × HasOwnShadow profile mbr_sectors)
             (config_in profile sectors mbr_sectors msid.now) }
     {
         if sectors == 0 || sectors > ADDRESS_LIMIT {
             return None;
         }
         if mbr_sectors > MOST_MBR_SECTORS || mbr_sectors > sectors {
+            return None;
+        }
+        if !is_own_shadow(profile, mbr_sectors) {
             return None;
         }
         if msid.is_empty() || msid.len() > MOST_PIN_BYTES {
@@ -110,7 +126,7 @@ impl DriveConfig {
     }
 
     /// The same drive with these names, a serial number of at most 20 bytes and a model number of at most 40, of
-    /// printable ASCII. None exactly where one is longer or has another byte. Only `Field` tells them.
+    /// printable ASCII. None exactly where one is longer or has another byte. Only `Base` does not tell them.
     pub fn with_names(self, serial: &[u8], model: &[u8]) -> Option<DriveConfig>
         ensures { SomeIff result (AreNames serial.now model.now)
             (named_config self serial.now model.now) }
@@ -128,8 +144,8 @@ impl DriveConfig {
         })
     }
 
-    /// The same drive with this PIN on its label, of 1 to 32 bytes; None exactly where it has none or more. Only `Field`
-    /// takes it.
+    /// The same drive with this PIN on its label, of 1 to 32 bytes; None exactly where it has none or more. Only `Base`
+    /// does not take it.
     pub fn with_psid(self, psid: &[u8]) -> Option<DriveConfig>
         ensures { SomeIff result (IsLabel psid.now) (labelled_config self psid.now) }
     {
@@ -142,13 +158,14 @@ impl DriveConfig {
         })
     }
 
-    /// The same drive with a DataStore of so many bytes, up to 16,777,216; None exactly where they are more. Only
-    /// `Field` has one.
+    /// The same drive with a DataStore of so many bytes, up to 16,777,216, and of an Opal drive at least 10,485,760; None
+    /// exactly where they are more or fewer. Only `Base` has none.
     pub fn with_datastore(self, datastore: u64) -> Option<DriveConfig>
-        ensures { SomeIff result (datastore ≤ most_datastore_bytes)
+        ensures { SomeIff result
+            ((datastore ≤ most_datastore_bytes) × HasOwnStore self.profile datastore)
             (stored_config self datastore) }
     {
-        if datastore > MOST_DATASTORE_BYTES {
+        if datastore > MOST_DATASTORE_BYTES || !is_own_store(self.profile, datastore) {
             return None;
         }
         Some(DriveConfig { datastore, ..self })
@@ -254,10 +271,32 @@ impl DriveConfig {
 pub fn new_datastore_of(profile: Profile) -> u64
     ensures value { result ≡ new_datastore profile }
     ensures limits { result ≤ most_datastore_bytes }
+    ensures own { HasOwnStore profile result }
 {
     match profile {
         Profile::Base => 0,
         Profile::Field => NEW_DATASTORE_BYTES,
+        Profile::Opal => LEAST_OPAL_DATASTORE_BYTES,
+    }
+}
+
+/// Whether a drive of this profile can have a shadow of so many sectors.
+pub fn is_own_shadow(profile: Profile, mbr_sectors: u64) -> bool
+    ensures { result ≡ is_own_shadow profile mbr_sectors }
+{
+    match profile {
+        Profile::Base | Profile::Field => true,
+        Profile::Opal => mbr_sectors == OPAL_MBR_SECTORS,
+    }
+}
+
+/// Whether a drive of this profile can have a DataStore of so many bytes.
+pub fn is_own_store(profile: Profile, datastore: u64) -> bool
+    ensures { result ≡ is_own_store profile datastore }
+{
+    match profile {
+        Profile::Base | Profile::Field => true,
+        Profile::Opal => datastore >= LEAST_OPAL_DATASTORE_BYTES,
     }
 }
 

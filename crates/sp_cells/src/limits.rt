@@ -9,6 +9,12 @@ pub const MOST_DATASTORE_BYTES: u64 = 16_777_216;
 /// The bytes of DataStore where none is told.
 pub const NEW_DATASTORE_BYTES: u64 = 4096;
 
+/// The sectors of the shadow MBR of an Opal drive.
+pub const OPAL_MBR_SECTORS: u64 = 262_144;
+
+/// The least bytes of DataStore of an Opal drive, which has them where none are told.
+pub const LEAST_OPAL_DATASTORE_BYTES: u64 = 10_485_760;
+
 /// The most bytes of a PIN.
 pub const MOST_PIN_BYTES: usize = 32;
 

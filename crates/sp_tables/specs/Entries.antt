@@ -1,9 +1,9 @@
 -- The tables from which the rows of a new drive are made (Opal SSC 2.01, sections 4.2 and 4.3): what each of their
 -- entries stands for.
-use Rattle.std.specs.Prelude.{◌==◌, ◌+◌, ◌*◌, ℕ, Bool, true, false, List, [], ◌∷◌, ◌++◌, Option, None, Some, if◌then◌else◌}
+use Rattle.std.specs.Prelude.{◌==◌, ◌+◌, ◌*◌, ℕ, Bool, true, false, List, [], ◌∷◌, ◌++◌, Option, None, Some, if◌then◌else◌, not}
 use Rattle.std.specs.Fmt.{decimal}
 use Rattle.basics.specs.declared.profile.Profile.{Profile}
-use Rattle.basics.specs.declared.profile.Profile.TheVariants.{Base, Field}
+use Rattle.basics.specs.declared.profile.Profile.TheVariants.{Base, Field, Opal}
 use Rattle.sp_cells.specs.declared.names.TheConstants.{RANGES, USERS}
 use Rattle.sp_cells.specs.declared.names.Column.{Column}
 use Rattle.sp_cells.specs.declared.cells.Cell.{Cell}
@@ -21,16 +21,18 @@ use Rattle.sp_tables.specs.declared.sp_rows.families.AuthorityFamily.{AuthorityF
 use Rattle.sp_tables.specs.declared.sp_rows.families.Authorities.{Authorities}
 use Rattle.sp_tables.specs.declared.sp_rows.families.Authorities.TheVariants.{Group, Member, Each}
 use Rattle.sp_tables.specs.declared.sp_rows.families.PinFamily.{PinFamily}
+use Rattle.basics.specs.Profiles.{has_field}
 use Rattle.sp_tables.specs.Items.{Item, row_items}
 use Rattle.sp_tables.specs.Factory.{new_group, new_member, new_pin, new_ace, ace_row, family}
 
--- what stands in an entry of one profile, or of both
+-- what stands in an entry: of every profile, of Base alone, of Field and of Opal, which has all of it, or of Opal alone
 abbrev pub is_in : Option Profile → Profile → Bool
 is_in None profile = true
-is_in (Some Base) Base = true
-is_in (Some Base) Field = false
-is_in (Some Field) Base = false
-is_in (Some Field) Field = true
+is_in (Some Base) profile = not (has_field profile)
+is_in (Some Field) profile = has_field profile
+is_in (Some Opal) Base = false
+is_in (Some Opal) Field = false
+is_in (Some Opal) Opal = true
 
 abbrev pub entry_items : {E : Type 0} → (E → List Item) → Profile → Entry E → List Item
 entry_items items profile entry = if is_in entry.profile profile then items entry.rows else []

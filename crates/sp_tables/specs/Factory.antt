@@ -3,7 +3,8 @@ use Rattle.std.specs.Prelude.{◌≡◌, ◌+◌, ◌==◌, ℕ, true, false, Li
 use Rattle.std.specs.Fmt.{decimal}
 use Rattle.std.specs.List.{flat_map}
 use Rattle.basics.specs.declared.profile.Profile.{Profile}
-use Rattle.basics.specs.declared.profile.Profile.TheVariants.{Base, Field}
+use Rattle.basics.specs.declared.profile.Profile.TheVariants.{Base, Field, Opal}
+use Rattle.basics.specs.Profiles.{has_field}
 use Rattle.sp_cells.specs.declared.names.TheConstants.{RANGES, USERS, ADMINS}
 use Rattle.sp_cells.specs.declared.names.Uid.{Uid}
 use Rattle.sp_cells.specs.declared.names.Column.{Column}
@@ -164,10 +165,9 @@ abbrev pub locks : List Column
 locks = read_lock_enabled_column ∷ write_lock_enabled_column ∷ read_locked_column
     ∷ write_locked_column ∷ lock_on_reset_column ∷ []
 
--- rows that a drive of the profile `Field` alone has
+-- rows that a drive has under the profile `Field`, and under each that has all of it
 abbrev pub in_field : Profile → List Item → List Item
-in_field Base items = []
-in_field Field items = items
+in_field profile items = if has_field profile then items else []
 
 -- these runs of rows have these cells
 abbrev pub HasRows : {R : Type 0} → (R → List (Column × Cell)) → List (Run R) → List Item → Type 0
@@ -347,6 +347,8 @@ unfoldable pub range_get_aces : Profile → List Item
 range_get_aces Base =
     ace_row ace_locking_get_all (codes "Locking_Get") admins_class (bounds ++ locks)
 range_get_aces Field = row_items (ace_range_get 0) (range_get_ace 0)
+    ++ family range_get_ace_base range_get_ace RANGES
+range_get_aces Opal = row_items (ace_range_get 0) (range_get_ace 0)
     ++ family range_get_ace_base range_get_ace RANGES
 
 -- who may make a new key for one

@@ -9,7 +9,7 @@ use Rattle.sp_tables.specs.Items.{Item}
 use Rattle.sp_tables.specs.Runs.{run_items}
 use Rattle.sp_tables.specs.Columns.{sp_columns, authority_columns, c_pin_columns, locking_columns, mbr_control_columns, tper_info_columns, ace_columns, range_key_columns, locking_info_columns, table_columns, data_removal_columns}
 
--- those of the profile `Field`
+-- those that `Base` has not
 abbrev pub field_items : FieldTables → List Item
 field_items t =
     flat_map (run_items range_key_columns) t.range_keys.items

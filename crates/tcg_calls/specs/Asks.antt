@@ -2,7 +2,7 @@
 use Rattle.std.specs.Prelude.{◌==◌, ◌||◌, ◌-◌, ◌^◌, nat_le, ℕ, Bool, true, false, List, [], ◌∷◌, length, Option, None, Some, option_map, if◌then◌else◌}
 use Rattle.std.specs.Int.{w64, from_be_bytes}
 use Rattle.basics.specs.declared.profile.Profile.{Profile}
-use Rattle.basics.specs.declared.profile.Profile.TheVariants.{Base, Field}
+use Rattle.basics.specs.declared.profile.Profile.TheVariants.{Base, Field, Opal}
 use Rattle.tcg_tokens.specs.Tree.{Tree, bytes}
 use Rattle.sp_cells.specs.declared.names.Uid.{Uid}
 use Rattle.sp_cells.specs.declared.names.Sp.{Sp}
@@ -30,6 +30,7 @@ is_datastore Locking object = object.0 == datastore_table.0
 abbrev pub is_byte_table : Profile → Sp → Uid → Bool
 is_byte_table Base sp object = is_mbr_table sp object
 is_byte_table Field sp object = is_mbr_table sp object || is_datastore sp object
+is_byte_table Opal sp object = is_mbr_table sp object || is_datastore sp object
 
 -- a cellblock: one list that names what is asked
 abbrev pub cellblock_in : ℕ → ℕ → Option (List Tree) → Option (List (ℕ × Tree))
@@ -134,7 +135,7 @@ keep_in (Some ps) = keep_of (number_or 0 (value_of keep_global_range_key_paramet
 abbrev pub revert_sp_in : List Tree → Option Ask
 revert_sp_in args = keep_in (options (keep_global_range_key_parameter ∷ []) args)
 
--- the methods that the field profile has besides; the base profile does not know their names
+-- the methods that the field and the opal profile have besides; the base profile does not know their names
 abbrev pub field_ask_of : Uid → List Tree → Option Ask
 field_ask_of method args =
     if method.0 == gen_key.0 then without_arguments GenKey args else
@@ -144,6 +145,7 @@ field_ask_of method args =
 abbrev pub other_ask_of : Profile → Uid → List Tree → Option Ask
 other_ask_of Base method args = Some Other
 other_ask_of Field method args = field_ask_of method args
+other_ask_of Opal method args = field_ask_of method args
 
 -- what a call asks; None where its arguments have not the shape that its method wants. A method that the profile does
 -- not know takes any

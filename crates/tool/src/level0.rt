@@ -23,7 +23,9 @@ fn discovery_text(alloc: Global, config: &DriveConfig) -> Result<String, AllocEr
     let tables = Tables::factory(alloc, config)?;
     match config.profile() {
         Profile::Base => hex::encode(alloc, discovery(&tables)),
-        Profile::Field => hex::encode(alloc, field_discovery(&tables, SidBlock::Free)),
+        Profile::Field | Profile::Opal => {
+            hex::encode(alloc, field_discovery(&tables, SidBlock::Free))
+        }
     }
 }
 

@@ -295,10 +295,7 @@ fn read_in_session(
 fn ends_session(store: &Store, tokens: &[u8]) -> bool
     ensures { result ≡ ends_session store.now.config.profile tokens.now }
 {
-    match store.committed().config().profile() {
-        Profile::Base => false,
-        Profile::Field => begins_with_end(tokens),
-    }
+    store.committed().config().profile().has_field() && begins_with_end(tokens)
 }
 
 /// What is sent to a live session.

@@ -2,7 +2,7 @@
 use Rattle.std.specs.Prelude.{option_map}
 use Rattle.std.proofs.Common.{◌≡◌, ◌∙◌, ◌%◌, ℕ, Bool, true, false, Option, Some, None, Ok, Err, cond, refl, sym, ap, arith}
 use Rattle.basics.specs.declared.profile.Profile.{Profile}
-use Rattle.basics.specs.declared.profile.Profile.TheVariants.{Base, Field}
+use Rattle.basics.specs.declared.profile.Profile.TheVariants.{Base, Field, Opal}
 use Rattle.fis.specs.declared.h2d.RegH2d.{RegH2d}
 use Rattle.trusted_cmds.specs.declared.command.Command.{Command}
 use Rattle.trusted_cmds.specs.declared.command.Command.TheVariants.{ReadDma, WriteDma, Flush, SetFeatures, ReadLog}
@@ -22,6 +22,8 @@ base-reads h = refl
 pub known-reads : (p : Profile) (h : RegH2d) → fault_of h ≡ None → reading_in p h ≡ reading h
 known-reads Base h none = refl
 known-reads Field h none =
+    ap (λ e. read_or (read_unless e h) (beside h)) none ∙ ap (λ e. read_unless e h) (sym none)
+known-reads Opal h none =
     ap (λ e. read_or (read_unless e h) (beside h)) none ∙ ap (λ e. read_unless e h) (sym none)
 
 unknown : (h : RegH2d) → h.is_command ≡ true → is_known_code h.command ≡ false → fault_of h ≡ Some Unknown
@@ -51,10 +53,19 @@ pages-back Directory true Field is = refl
 pages-back Directory false Field is = refl
 pages-back (IdentifyData first count) true Field is = grind arith
 pages-back (IdentifyData first count) false Field is = grind arith
+pages-back Directory true Opal is = refl
+pages-back Directory false Opal is = refl
+pages-back (IdentifyData first count) true Opal is = grind arith
+pages-back (IdentifyData first count) false Opal is = grind arith
 pages-back pages dma Base is = grind arith
 
 mode-is : (mode : ℕ) → is_transfer_mode mode ≡ true → mode % 256 ≡ mode
 mode-is mode is = grind arith
+
+mode-back : (mode : ℕ) → is_transfer_mode mode ≡ true → reading_in Field (feature_fis (TransferMode mode)) ≡ Ok (SetFeatures (TransferMode mode), None)
+mode-back mode is =
+    ap (λ m. read_or (Err Unknown) (option_map SetFeatures (cond (is_transfer_mode m) (Some (TransferMode m)) None))) (mode-is mode is)
+    ∙ ap (λ b. read_or (Err Unknown) (option_map SetFeatures (cond b (Some (TransferMode mode)) None))) is
 
 pub feature-back : (feature : Feature) (p : Profile) → is_offered p (SetFeatures feature) ≡ true
     → reading_in p (feature_fis feature) ≡ Ok (SetFeatures feature, None)
@@ -62,7 +73,10 @@ feature-back (WriteCache true) Field is = refl
 feature-back (WriteCache false) Field is = refl
 feature-back (ReadLookAhead true) Field is = refl
 feature-back (ReadLookAhead false) Field is = refl
-feature-back (TransferMode mode) Field is =
-    ap (λ m. read_or (Err Unknown) (option_map SetFeatures (cond (is_transfer_mode m) (Some (TransferMode m)) None))) (mode-is mode is)
-    ∙ ap (λ b. read_or (Err Unknown) (option_map SetFeatures (cond b (Some (TransferMode mode)) None))) is
+feature-back (TransferMode mode) Field is = mode-back mode is
+feature-back (WriteCache true) Opal is = refl
+feature-back (WriteCache false) Opal is = refl
+feature-back (ReadLookAhead true) Opal is = refl
+feature-back (ReadLookAhead false) Opal is = refl
+feature-back (TransferMode mode) Opal is = mode-back mode is
 feature-back feature Base is = grind arith

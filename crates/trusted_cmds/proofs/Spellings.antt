@@ -1,7 +1,7 @@
 -- What is read under a profile, by what each drive reads and what a profile reads beside.
 use Rattle.std.proofs.Common.{◌≡◌, ◌∙◌, ℕ, ◌==◌, Bool, true, false, Option, Some, None, Result, Ok, Err, refl, sym, ap, arith}
 use Rattle.basics.specs.declared.profile.Profile.{Profile}
-use Rattle.basics.specs.declared.profile.Profile.TheVariants.{Base, Field}
+use Rattle.basics.specs.declared.profile.Profile.TheVariants.{Base, Field, Opal}
 use Rattle.fis.specs.declared.h2d.RegH2d.{RegH2d}
 use Rattle.trusted_cmds.specs.declared.command.Command.{Command}
 use Rattle.std.specs.Prelude.{not, ◌||◌, option_map, if◌then◌else◌}
@@ -18,6 +18,7 @@ pub ok-reads : (p : Profile) (h : RegH2d) {x : Command × Option ℕ} → ◌≡
     → ◌≡◌ {A = Result (Command × Option ℕ) CommandError} (reading_in p h) (Ok x)
 ok-reads Base h e = e
 ok-reads Field h e = ap (λ (r : Result (Command × Option ℕ) CommandError). read_or r (beside h)) e
+ok-reads Opal h e = ap (λ (r : Result (Command × Option ℕ) CommandError). read_or r (beside h)) e
 
 ok-same : {p q : Command × Option ℕ} → ◌≡◌ {A = Result (Command × Option ℕ) CommandError} (Ok p) (Ok q) → p ≡ q
 ok-same h = cc
@@ -32,18 +33,19 @@ no_tag : {tag : ℕ} → None ≡ Some tag → ⊥
 no_tag h = cc
 
 -- What is read beside has no tag: a tag was read as each drive reads it.
+tag_or : (h : RegH2d) (command : Command) (tag : ℕ) (r : Result (Command × Option ℕ) CommandError) (more : Option Command) → reading h ≡ r
+    → ◌≡◌ {A = Result (Command × Option ℕ) CommandError} (read_or r more) (Ok (command, Some tag))
+    → ◌≡◌ {A = Result (Command × Option ℕ) CommandError} (reading h) (Ok (command, Some tag))
+tag_or h command tag (Ok x) more is g = is ∙ g
+tag_or h command tag (Err error) None is g = absurd (no_error g)
+tag_or h command tag (Err error) (Some c) is g = absurd (no_tag (ok-tag g))
+
 pub tag-reads : (p : Profile) (h : RegH2d) (command : Command) (tag : ℕ)
     → ◌≡◌ {A = Result (Command × Option ℕ) CommandError} (reading_in p h) (Ok (command, Some tag))
     → ◌≡◌ {A = Result (Command × Option ℕ) CommandError} (reading h) (Ok (command, Some tag))
 tag-reads Base h command tag e = e
-tag-reads Field h command tag e = by_read (reading h) (beside h) refl e
-  where
-    by_read : (r : Result (Command × Option ℕ) CommandError) (more : Option Command) → reading h ≡ r
-        → ◌≡◌ {A = Result (Command × Option ℕ) CommandError} (read_or r more) (Ok (command, Some tag))
-        → ◌≡◌ {A = Result (Command × Option ℕ) CommandError} (reading h) (Ok (command, Some tag))
-    by_read (Ok x) more is g = is ∙ g
-    by_read (Err error) None is g = absurd (no_error g)
-    by_read (Err error) (Some c) is g = absurd (no_tag (ok-tag g))
+tag-reads Field h command tag e = tag_or h command tag (reading h) (beside h) refl e
+tag-reads Opal h command tag e = tag_or h command tag (reading h) (beside h) refl e
 
 -- A write that is read beside is one of 28 bits.
 pub record IsShortWrite (h : RegH2d) (lba count : ℕ) : Type 0 where

@@ -1,7 +1,7 @@
--- The command that blocks SID, which a drive of the field profile takes (Block SID Authentication feature set 1.00).
+-- The command that blocks SID, which a drive of the field or the opal profile takes (Block SID Authentication feature set 1.00).
 use Rattle.std.specs.Prelude.{ℕ, ◌%◌, ◌==◌, Bool, true, false, ◌&&◌, nat_lt, List, slice_index, if◌then◌else◌}
 use Rattle.basics.specs.declared.profile.Profile.{Profile}
-use Rattle.basics.specs.declared.profile.Profile.TheVariants.{Base, Field}
+use Rattle.basics.specs.Profiles.{has_field}
 use Rattle.trusted_cmds.specs.declared.command.Command.{Command}
 use Rattle.trusted_cmds.specs.declared.command.Command.TheVariants.{Send}
 use Rattle.trusted_cmds.specs.declared.block.SidBlock.{SidBlock}
@@ -12,14 +12,10 @@ use Rattle.trusted_cmds.specs.Commands.{reset_protocol}
 abbrev pub block_com_id : ℕ
 block_com_id = 5
 
-abbrev pub knows_block_sid : Profile → Bool
-knows_block_sid Base = false
-knows_block_sid Field = true
-
 abbrev pub is_block_sid : Profile → Command → Bool
 is_block_sid profile (Send protocol sp_specific count dma) =
     protocol == reset_protocol && sp_specific == block_com_id && nat_lt 0 count
-    && knows_block_sid profile
+    && has_field profile
 is_block_sid profile _ = false
 
 -- Bit 0 of the payload's first byte is HardwareReset; nothing else of it is looked at.

@@ -131,6 +131,13 @@ is_protocol_list (Receive protocol sp_specific count dma) =
     protocol == 0 && sp_specific == 0 && nat_lt 0 count
 is_protocol_list _ = false
 
+-- A receive that asks for the certificates: protocol 00h, SP Specific 0001h, one block at least (SPC-4, SECURITY PROTOCOL
+-- IN, "Certificate data").
+abbrev pub is_certificate_data : Command → Bool
+is_certificate_data (Receive protocol sp_specific count dma) =
+    protocol == 0 && sp_specific == 1 && nat_lt 0 count
+is_certificate_data _ = false
+
 -- The tag of a queued command: bits 7 to 3 of Count.
 abbrev pub tag_of : RegH2d → ℕ
 tag_of h = h.count / 8 % 32

@@ -2,7 +2,7 @@
 -- tables of inputs).
 use Rattle.std.specs.Prelude.{◌≡◌, ℕ, ◌+◌, ◌*◌, ◌/◌, ◌%◌, ◌==◌, Bool, true, false, not, ◌&&◌, ◌||◌, nat_le, nat_lt, ◌⊎◌, Option, Some, None, option_map, Result, Ok, Err, if◌then◌else◌}
 use Rattle.basics.specs.declared.profile.Profile.{Profile}
-use Rattle.basics.specs.declared.profile.Profile.TheVariants.{Base, Field}
+use Rattle.basics.specs.declared.profile.Profile.TheVariants.{Base, Field, Opal}
 use Rattle.fis.specs.declared.h2d.RegH2d.{RegH2d}
 use Rattle.trusted_cmds.specs.declared.command.Command.{Command}
 use Rattle.trusted_cmds.specs.declared.command.Command.TheVariants.{ReadDma, WriteDma, Flush, SetFeatures, ReadLog}
@@ -110,6 +110,7 @@ CarriesBeside h _ _ = ⊥
 abbrev pub CarriesIn : Profile → RegH2d → Command → Option ℕ → Type 0
 CarriesIn Base h command tag = Carries h command tag
 CarriesIn Field h command tag = Carries h command tag ⊎ CarriesBeside h command tag
+CarriesIn Opal h command tag = Carries h command tag ⊎ CarriesBeside h command tag
 
 -- The pages that a read of a log names.
 abbrev pub pages_named : RegH2d → Option LogPages
@@ -161,6 +162,7 @@ read_or (Err error) (Some command) = Ok (command, None)
 abbrev pub reading_in : Profile → RegH2d → Result (Command × Option ℕ) CommandError
 reading_in Base h = reading h
 reading_in Field h = read_or (reading h) (beside h)
+reading_in Opal h = read_or (reading h) (beside h)
 
 -- What the field profile has: the features and the pages that there are.
 abbrev pub field_offers : Command → Bool
@@ -168,16 +170,22 @@ field_offers (SetFeatures (TransferMode mode)) = is_transfer_mode mode
 field_offers (ReadLog (IdentifyData first count) dma) = are_pages first count
 field_offers _ = true
 
--- The commands that a profile has: SET FEATURES and the pages of the device's logs belong to the field profile.
+-- The commands that a profile has: SET FEATURES and the pages of the device's logs belong to the field profile, and so to
+-- the opal profile.
 abbrev pub is_offered : Profile → Command → Bool
 is_offered Field command = field_offers command
+is_offered Opal command = field_offers command
 is_offered Base (SetFeatures feature) = false
 is_offered Base (ReadLog pages dma) = false
 is_offered Base _ = true
 
 -- How many bytes come with a command that is not queued: under the field profile WRITE DMA of 28 bits brings its
 -- sectors too.
+abbrev pub field_payload_length : RegH2d → ℕ
+field_payload_length h =
+    if h.command == short_write_dma then sector_size * short_sectors h else payload_length h
+
 abbrev pub payload_length_in : Profile → RegH2d → ℕ
 payload_length_in Base h = payload_length h
-payload_length_in Field h =
-    if h.command == short_write_dma then sector_size * short_sectors h else payload_length h
+payload_length_in Field h = field_payload_length h
+payload_length_in Opal h = field_payload_length h

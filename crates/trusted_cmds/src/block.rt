@@ -1,7 +1,7 @@
 //! The command that blocks SID (Block SID Authentication feature set 1.00), and whether SID is blocked.
 
 ghost use Rattle.std.specs.Prelude.{◌≡◌};
-ghost use Rattle.trusted_cmds.specs.BlockSid.{knows_block_sid, is_block_sid, block_asked, is_blocked, ends_at_hardware_reset};
+ghost use Rattle.trusted_cmds.specs.BlockSid.{is_block_sid, block_asked, is_blocked, ends_at_hardware_reset};
 
 use crate::command::Command;
 use crate::reset::RESET_PROTOCOL;
@@ -53,16 +53,6 @@ impl SidBlock {
     }
 }
 
-/// Whether a drive of this profile can block SID.
-fn knows_block_sid(profile: Profile) -> bool
-    ensures { result ≡ knows_block_sid profile }
-{
-    match profile {
-        Profile::Base => false,
-        Profile::Field => true,
-    }
-}
-
 /// Whether a command blocks SID on a drive of this profile: a TRUSTED SEND, by DMA or not, of one block at least, of
 /// security protocol 02h to the ComID 0005h. Whether it is taken is a matter of the drive's rows.
 pub fn is_block_sid(profile: Profile, command: &Command) -> bool
@@ -78,7 +68,7 @@ pub fn is_block_sid(profile: Profile, command: &Command) -> bool
             protocol == RESET_PROTOCOL
                 && sp_specific == BLOCK_COM_ID
                 && blocks > 0
-                && knows_block_sid(profile)
+                && profile.has_field()
         }
         _ => false,
     }

@@ -26,13 +26,15 @@ fn base_len(h: &RegH2d) -> usize
 }
 
 /// How many bytes come with an unqueued command: 512 for each sector of WRITE DMA EXT and for each block of TRUSTED SEND,
-/// under `Field` for each sector of WRITE DMA too, else none. The command code alone tells which it is, whatever the C bit
+/// but under `Base` for each sector of WRITE DMA too, else none. The command code alone tells which it is, whatever the C bit
 /// and the Device field are (ACS-3, "WRITE DMA EXT", "WRITE DMA", "TRUSTED SEND", "TRUSTED SEND DMA").
 pub fn payload_len(profile: Profile, h: &RegH2d) -> usize
     ensures { result ≡ payload_length_in profile h.now }
 {
     match profile {
-        Profile::Field if h.command == SHORT_WRITE_DMA => SECTOR_SIZE * short_sectors(h) as usize,
+        Profile::Field | Profile::Opal if h.command == SHORT_WRITE_DMA => {
+            SECTOR_SIZE * short_sectors(h) as usize
+        }
         _ => base_len(h),
     }
 }

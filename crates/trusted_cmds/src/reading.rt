@@ -1,10 +1,11 @@
 //! The command that a FIS carries.
 
-ghost use Rattle.std.specs.Prelude.{◌≡◌, Option, Some, None, IfOk, IfErr, IfSome, Ok, ℕ, true, false};
+ghost use Rattle.std.specs.Prelude.{◌≡◌, Option, Some, None, IfOk, IfErr, IfSome, Ok, Err, ℕ, true, false};
 ghost use Rattle.trusted_cmds.specs.declared.command.Command.{Command};
 ghost use Rattle.trusted_cmds.specs.Commands.{Carries, IsCounted, fault_of, command_of, command_without_sectors, tag_in, reading};
-ghost use Rattle.trusted_cmds.specs.Profiles.{CarriesIn, CarriesBeside, is_short_transfer, short_transfer, beside_without_sectors, beside, reading_in};
-ghost use Rattle.basics.specs.declared.profile.Profile.TheVariants.{Base};
+ghost use Rattle.trusted_cmds.specs.Profiles.{CarriesIn, CarriesBeside, is_short_transfer, short_transfer, beside_without_sectors, beside, reading_in, read_or, payload_length_in};
+ghost use Rattle.trusted_cmds.specs.BlockSid.{is_block_sid};
+ghost use Rattle.basics.specs.declared.profile.Profile.TheVariants.{Base, Field, Opal};
 
 use crate::codes::*;
 use crate::command::{Command, CommandError};
@@ -150,7 +151,7 @@ fn beside_without_sectors(h: &RegH2d) -> Option<Command>
     }
 }
 
-/// What `Field` reads in a FIS, beside what each drive reads.
+/// What `Field` and `Opal` read in a FIS, beside what each drive reads.
 fn beside(h: &RegH2d) -> Option<Command>
     ensures value { result ≡ beside h.now }
     ensures found { IfSome result (λ c. CarriesBeside h.now c None) }
@@ -171,8 +172,22 @@ fn beside(h: &RegH2d) -> Option<Command>
     }
 }
 
-/// The command that a FIS carries under a profile, with its tag where it is queued. What `Base` reads, `Field` reads the
-/// same; a few FISes that `Base` refuses are commands under `Field`. The errors come in this order: `NotCommand`,
+/// The same, or else the error.
+fn beside_or(h: &RegH2d, error: CommandError) -> Result<(Command, Option<Tag>), CommandError>
+    ensures exact { result ≡ read_or (Err error) (beside h.now) }
+    ensures found { IfOk result (λ r. CarriesBeside h.now r.0 r.1) }
+    ensures only { (c : Command) (t : Option ℕ) → CarriesBeside h.now c t → result ≡ Ok (c, t) }
+    ensures counted { IfOk result (λ r. IsCounted r.0) }
+    ensures refused { IfErr result (λ e. e ≡ error) }
+{
+    match beside(h) {
+        Some(command) => Ok((command, None)),
+        None => Err(error),
+    }
+}
+
+/// The command that a FIS carries under a profile, with its tag where it is queued. What `Base` reads, each profile reads
+/// the same; a few FISes that `Base` refuses are commands under `Field`, and `Opal` reads what `Field` does. The errors come in this order: `NotCommand`,
 /// `Unknown`, `Device`, `LogPage`.
 #[tactic(auto, using(crate::proofs::Profiles::faulty))]
 pub fn of_fis(profile: Profile, h: &RegH2d) -> Result<(Command, Option<Tag>), CommandError>
@@ -184,16 +199,19 @@ pub fn of_fis(profile: Profile, h: &RegH2d) -> Result<(Command, Option<Tag>), Co
 {
     let read = base_of(h);
     match (read, profile) {
-        (Err(error), Profile::Field) => match beside(h) {
-            Some(command) => Ok((command, None)),
-            None => Err(error),
-        },
+        (Err(error), Profile::Field) => beside_or(h, error),
+        (Err(error), Profile::Opal) => beside_or(h, error),
         (read, _) => read,
     }
 }
 
-/// What each drive reads, it reads under every profile, and `Base` reads nothing else.
+/// What each drive reads, it reads under every profile, and `Base` reads nothing else. `Opal` reads what `Field` does, and
+/// as much comes with it.
 pub fn laws_of_profiles()
     ensures base { (h : RegH2d) → reading_in Base h ≡ reading h }
     ensures known { (p : Profile) (h : RegH2d) → fault_of h ≡ None → reading_in p h ≡ reading h }
+    ensures field { (h : RegH2d) → reading_in Field h ≡ read_or (reading h) (beside h) }
+    ensures opal { (h : RegH2d) → reading_in Opal h ≡ reading_in Field h }
+    ensures brought { (h : RegH2d) → payload_length_in Opal h ≡ payload_length_in Field h }
+    ensures blocking { (c : Command) → is_block_sid Opal c ≡ is_block_sid Field c }
 {}

@@ -1,8 +1,8 @@
-//! What trusted commands ask for that go to no ComID of a session: the reset (TCG Storage, TPER_RESET), and the list of
-//! security protocols (SPC-4).
+//! What trusted commands ask for that go to no ComID of a session: the reset (TCG Storage, TPER_RESET), the list of
+//! security protocols, and the certificates (SPC-4).
 
 ghost use Rattle.std.specs.Prelude.{◌≡◌};
-ghost use Rattle.trusted_cmds.specs.Commands.{is_programmatic_reset, is_protocol_list};
+ghost use Rattle.trusted_cmds.specs.Commands.{is_programmatic_reset, is_protocol_list, is_certificate_data};
 
 use crate::command::Command;
 
@@ -40,6 +40,22 @@ pub fn is_protocol_list(command: &Command) -> bool
             blocks,
             ..
         } => protocol == 0 && sp_specific == 0 && blocks > 0,
+        _ => false,
+    }
+}
+
+/// Whether a command asks for the certificates: a TRUSTED RECEIVE, by DMA or not, of one block at least, of security
+/// protocol 00h with 0001h as SP Specific.
+pub fn is_certificate_data(command: &Command) -> bool
+    ensures { result ≡ is_certificate_data command.now }
+{
+    match *command {
+        Command::Receive {
+            protocol,
+            sp_specific,
+            blocks,
+            ..
+        } => protocol == 0 && sp_specific == 1 && blocks > 0,
         _ => false,
     }
 }

@@ -34,13 +34,13 @@ fn admin_row(profile: Profile, object: Uid, method: Uid) -> Option<ArrayVec<Uid,
     admin_field_row(profile, object, method)
 }
 
-/// The ACEs of what the Admin SP has under the profile `Field` alone.
+/// The ACEs of what the Admin SP has under each profile but `Base`.
 #[tactic(auto, using(crate::proofs::access_list::Joins::joins))]
 fn admin_field_row(profile: Profile, object: Uid, method: Uid) -> Option<ArrayVec<Uid, 4>>
     ensures { IsAnsweredByGrants (of_field profile (label_grants ++ removal_grants)) Admin object
         method result }
 {
-    if profile == Profile::Base {
+    if !profile.has_field() {
         return None;
     }
     if let Some(aces) = label_row(object, method) {
@@ -68,7 +68,7 @@ fn reverters(profile: Profile) -> ArrayVec<Uid, 4>
 {
     match profile {
         Profile::Base => one(Uid::ACE_SP_SID),
-        Profile::Field => two(Uid::ACE_SP_SID, Uid::ACE_SP_PSID),
+        Profile::Field | Profile::Opal => two(Uid::ACE_SP_SID, Uid::ACE_SP_PSID),
     }
 }
 
@@ -154,14 +154,14 @@ fn locking_row(profile: Profile, object: Uid, method: Uid) -> Option<ArrayVec<Ui
     field_row(profile, object, method)
 }
 
-/// The ACEs of what a drive of the profile `Field` alone has.
+/// The ACEs of what a drive has under each profile but `Base`.
 #[tactic(auto, using(crate::proofs::access_list::Joins::joins))]
 fn field_row(profile: Profile, object: Uid, method: Uid) -> Option<ArrayVec<Uid, 4>>
     ensures { IsAnsweredByGrants
         (of_field profile (gen_key_ace_grants ++ info_grants ++ datastore_grants ++ key_grants))
         Locking object method result }
 {
-    if profile == Profile::Base {
+    if !profile.has_field() {
         return None;
     }
     if let Some(aces) = gen_key_ace(object, method) {
@@ -291,7 +291,7 @@ fn range_get_ace(profile: Profile, object: Uid, method: Uid) -> Option<ArrayVec<
             }
             _ => None,
         },
-        Profile::Field => {
+        Profile::Field | Profile::Opal => {
             object.range_get_ace_number()?;
             settable(method)
         }
@@ -347,7 +347,7 @@ fn range_get(profile: Profile, object: Uid, method: Uid) -> Option<ArrayVec<Uid,
     let range = object.range_number()?;
     let all = match (profile, method) {
         (Profile::Base, Uid::GET) => Uid::ACE_LOCKING_GET_ALL,
-        (Profile::Field, Uid::GET) => Uid::ace_range_get(range),
+        (Profile::Field | Profile::Opal, Uid::GET) => Uid::ace_range_get(range),
         _ => return None,
     };
     Some(two(all, Uid::ACE_ANYBODY_GET_COMMON_NAME))

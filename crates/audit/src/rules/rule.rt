@@ -24,6 +24,8 @@ pub enum Rule {
     ComId,
     /// A send on a ComID whose response waits to be received (Core 2.01, section 3.3.10).
     ResponseWaits,
+    /// A send of more bytes than the largest ComPacket has (Core 2.01, section 3.3.10; SIIS, invalid transfer length).
+    LongTransfer,
     /// SID has a PIN of its own, or is blocked already (Block SID Authentication feature set 1.00).
     SidKept,
     /// What was sent is no frame of its ComID (Core 2.01, section 3.2.3).

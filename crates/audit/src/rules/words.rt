@@ -48,6 +48,7 @@ pub fn rule_words(rule: Rule) -> &'static [u8]
         Rule::Protocol => b"not security protocol 01h with one block at least",
         Rule::ComId => b"the drive has no such ComID",
         Rule::ResponseWaits => b"a response waits on the ComID",
+        Rule::LongTransfer => b"the transfer is longer than a ComPacket may be",
         Rule::SidKept => b"SID has a PIN of its own, or is blocked already",
         Rule::NoFrame => b"no frame of this ComID was sent",
         Rule::NoSession => b"no such session lives on this ComID",

@@ -4,7 +4,7 @@ use Rattle.sp_cells.specs.declared.cells.Cell.{Cell}
 use Rattle.sp_cells.specs.declared.names.Sp.{Sp}
 use Rattle.sp_cells.specs.declared.names.Sp.TheVariants.{Admin, Locking}
 use Rattle.sp_cells.specs.declared.names.Uid.{Uid}
-use Rattle.basics.specs.declared.profile.Profile.TheVariants.{Field}
+use Rattle.basics.specs.Profiles.{has_field}
 use Rattle.sessions.specs.Deeds.{SessionDeed, Begun, Change, Started, Changed, Began, Committed, Aborted, Ended, Activated, Reverted, Erased}
 use Rattle.sessions.specs.Starts.{is_in_use}
 use Rattle.shadow_mbr.specs.declared.erasure.Erasure.{Erasure}
@@ -92,12 +92,12 @@ revert_says law o past act erasure response is = told (law o past act (Reverted 
         no_admin : Admin ≡ Locking → ⊥
         no_admin e = cc
 
--- A GenKey is under the field profile, of a session of the Locking SP, and erases by a range.
+-- A GenKey is under each profile but the base one, of a session of the Locking SP, and erases by a range.
 erased_says : DeedLaw → (o : Origin) (past : List Event) (act : Act) (erasure : Erasure)
     (response : Response) → does o past act (Erased erasure) response
     → (range : ℕ) × (session : Begun) × (session_on past Locking ≡ Some session)
     × (is_of session.number (open_on past Locking) ≡ false)
-    × (o.tables.config.profile ≡ Field) × (erasure ≡ erased_by_key (in_force o past) range)
+    × (has_field o.tables.config.profile ≡ true) × (erasure ≡ erased_by_key (in_force o past) range)
 erased_says law o past act erasure response is =
     let its = law o past act (Erased erasure) response is in
     (its.range, its.outside.session, its.outside.lives.lives, its.outside.outside, its.profile, its.erases)

@@ -2,7 +2,8 @@
 use Rattle.std.proofs.Common.{◌≡◌, ◌∙◌, ℕ, ◌&&◌, Bool, true, false, List, [], ◌∷◌, Option, None, Some, codes, refl, sym, ap, if◌then◌else◌}
 use Rattle.std.specs.Fmt.{digits}
 use Rattle.std.proofs.lemmas.Bool.{and_from}
-use Rattle.basics.specs.declared.profile.Profile.TheVariants.{Base, Field}
+use Rattle.basics.specs.declared.profile.Profile.{Profile}
+use Rattle.basics.specs.declared.profile.Profile.TheVariants.{Base, Field, Opal}
 use Rattle.sp_cells.specs.declared.names.Sp.TheVariants.{Admin}
 use Rattle.sp_cells.specs.declared.cells.Element.TheVariants.{Authority}
 use Rattle.sp_cells.specs.declared.cells.Cell.TheVariants.{Expr, Columns}
@@ -23,18 +24,20 @@ use Rattle.history.specs.Decisions.{lets_reset}
 use Rattle.history.specs.Tcg.{unqueued, send}
 use Rattle.reasons.specs.declared.rulings.Matter.{Matter}
 use Rattle.reasons.specs.declared.rulings.Matter.TheVariants.{Reset, OtherThanList, Plain}
-use Rattle.reasons.specs.Rulings.{has_protocol_list, is_by_protocol_0, ruled_text, ResetRuleLaw}
+use Rattle.reasons.specs.Rulings.{other_than_told, is_by_protocol_0, ruled_text, ResetRuleLaw}
 
 no-rule : (rule : Rule) → ◌≡◌ {A = Option Rule} None (Some rule) → ⊥
 no-rule rule h = cc
 
-other-matter : (b : Bool) → ◌≡◌ {A = Matter} (if b then OtherThanList else Plain) Reset → ⊥
-other-matter true h = cc
-other-matter false h = cc
+other-matter : (b : Bool) (p : Profile) → ◌≡◌ {A = Matter} (if b then other_than_told p else Plain) Reset → ⊥
+other-matter true Base h = cc
+other-matter true Field h = cc
+other-matter true Opal h = cc
+other-matter false p h = cc
 
-is-reset : (reset other : Bool) → ◌≡◌ {A = Matter} (if reset then Reset else (if other then OtherThanList else Plain)) Reset → reset ≡ true
-is-reset true other h = refl
-is-reset false other h = absurd (other-matter other h)
+is-reset : (reset other : Bool) (p : Profile) → ◌≡◌ {A = Matter} (if reset then Reset else (if other then other_than_told p else Plain)) Reset → reset ≡ true
+is-reset true other p h = refl
+is-reset false other p h = absurd (other-matter other p h)
 
 lets : (f : Facts) (payload : List ℕ) (protocol sp_specific blocks : ℕ) (dma b : Bool) → lets_reset f.rows ≡ b
     → is_programmatic_reset (Send protocol sp_specific blocks dma) ≡ true
@@ -50,7 +53,7 @@ pub resets : ResetRuleLaw
 resets f payload protocol sp_specific blocks dma matter ruled =
     lets f payload protocol sp_specific blocks dma (lets_reset f.rows) refl
     (is-reset (is_programmatic_reset (Send protocol sp_specific blocks dma))
-    (has_protocol_list f.config.profile && is_by_protocol_0 (Send protocol sp_specific blocks dma)) matter)
+    (is_by_protocol_0 (Send protocol sp_specific blocks dma)) f.config.profile matter)
     ruled
 
 -- SID lets commands reset the drive
@@ -82,6 +85,10 @@ no_block = refl
 other_than_list : ruled_text Field rows (Some (Receive 0 1 1 true)) (Some rules.Protocol) ≡ codes "because security protocol 00h is its list alone: a receive, SP Specific 0000h, one block or more\n"
 other_than_list = refl
 
+-- under Opal there are the certificates too
+other_than_certificates : ruled_text Opal rows (Some (Receive 0 2 1 true)) (Some rules.Protocol) ≡ codes "because security protocol 00h is its list and the certificates: a receive, SP Specific 0000h or 0001h, one block or more\n"
+other_than_certificates = refl
+
 no_list : ruled_text Base rows (Some (Receive 0 1 1 true)) (Some rules.Protocol) ≡ codes "because not security protocol 01h with one block at least\n"
 no_list = refl
 
@@ -91,6 +98,10 @@ to_discovery = refl
 
 to_none : ruled_text Base rows (Some (Send 1 77 1 true)) (Some rules.ComId) ≡ codes "because the drive has no such ComID\n"
 to_none = refl
+
+-- how much a send carries
+long_transfer : ruled_text Opal rows (Some (Send 1 4096 129 true)) (Some rules.LongTransfer) ≡ codes "because the transfer is longer than a ComPacket may be\n"
+long_transfer = refl
 
 -- how much a response carries
 too_long : ruled_text Base rows (Some (Send 1 4096 1 true)) (Some rules.TooLong) ≡ codes "because a response carries at most 65480 bytes of tokens\n"

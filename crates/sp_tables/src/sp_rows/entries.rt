@@ -16,7 +16,7 @@ use basics::Profile;
 use sp_cells::Uid;
 use std::alloc::{AllocError, Global};
 
-/// Rows that a drive of one profile has, or every drive.
+/// Rows that every drive has, or those of a profile: of `Field`, those of `Opal` too.
 pub(crate) struct Entry<E> {
     pub(crate) profile: Option<Profile>,
     pub(crate) rows: E,
@@ -85,7 +85,9 @@ impl<E> Entry<E> {
     {
         match self.profile {
             None => true,
-            Some(only) => only == profile,
+            Some(Profile::Base) => !profile.has_field(),
+            Some(Profile::Field) => profile.has_field(),
+            Some(Profile::Opal) => profile == Profile::Opal,
         }
     }
 }

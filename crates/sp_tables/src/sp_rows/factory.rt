@@ -221,7 +221,7 @@ fn locking_aces_made(alloc: Global, profile: Profile) -> Result<Vec<Run<AceRow>>
     Ok(runs)
 }
 
-/// The tables of the Admin SP that the profile `Field` alone fills.
+/// The tables of the Admin SP that `Base` leaves empty.
 fn admin_field_made(alloc: Global, profile: Profile) -> Result<FieldTables, AllocError>
     ensures { IfOk result (λ t. field_items t ≡ in_field profile data_removals) }
 {
@@ -251,7 +251,7 @@ pub fn new_admin_sp(alloc: Global, config: &DriveConfig) -> Result<SpTables, All
     })
 }
 
-/// The tables of the Locking SP that the profile `Field` alone fills.
+/// The tables of the Locking SP that `Base` leaves empty.
 fn locking_field_made(
     alloc: Global,
     profile: Profile,

@@ -1,4 +1,4 @@
-//! The rows that a drive of the profile `Field` alone has.
+//! The rows that a drive has under the profile `Field`, and under each that has all of it.
 
 ghost use Rattle.std.specs.Prelude.{◌≡◌, ◌+◌, ◌<◌, ◌≤◌, ◌^◌, [], ◌∷◌, ◌++◌, IfOk, OnOk, string_bytes, map, codes};
 ghost use Rattle.std.specs.List.{flat_map};
@@ -28,7 +28,7 @@ pub(crate) fn push_label_pin(
     ensures { OnOk result (AddsRows c_pin_columns runs.old.items runs.new.items
         (in_field profile (label_pins psid.now))) }
 {
-    if profile == Profile::Base {
+    if !profile.has_field() {
         return Ok(());
     }
     push_pin(
@@ -52,7 +52,7 @@ pub(crate) fn range_keys_made(
         (λ runs. HasRows range_key_columns runs.items (in_field profile range_keys)) }
 {
     let mut runs = Vec::new(alloc);
-    if profile == Profile::Field {
+    if profile.has_field() {
         push_one(alloc, &mut runs, Uid::range(0), range_key(Uid::key(0)))?;
         push_family(alloc, &mut runs, &RangeKeys, RANGES)?;
     }
@@ -69,7 +69,7 @@ pub(crate) fn locking_infos_made(
         (λ runs. HasRows locking_info_columns runs.items (in_field profile locking_infos)) }
 {
     let mut runs = Vec::new(alloc);
-    if profile == Profile::Field {
+    if profile.has_field() {
         let name = String::from_str(alloc, "LockingInfo")?;
         let row = locking_info(Uid::LOCKING_INFO, name);
         push_one(alloc, &mut runs, Uid::LOCKING_INFO, row)?;
@@ -105,7 +105,7 @@ pub(crate) fn byte_tables_made(
         (in_field profile (byte_tables sizes))) }
 {
     let mut runs = Vec::new(alloc);
-    if profile == Profile::Field {
+    if profile.has_field() {
         let mbr = sizes.bytes_of(ByteTable::ShadowMbr);
         push_byte_table(alloc, &mut runs, Uid::MBR_TABLE_ROW, "MBR", mbr)?;
         let datastore = sizes.bytes_of(ByteTable::DataStore);
@@ -130,7 +130,7 @@ pub(crate) fn data_removals_made(
         (λ runs. HasRows data_removal_columns runs.items (in_field profile data_removals)) }
 {
     let mut runs = Vec::new(alloc);
-    if profile == Profile::Field {
+    if profile.has_field() {
         let row = data_removal(Uid::DATA_REMOVAL);
         push_one(alloc, &mut runs, Uid::DATA_REMOVAL, row)?;
     }

@@ -113,7 +113,7 @@ fn is_byte_table(profile: Profile, sp: Sp, object: Uid) -> bool
 {
     match profile {
         Profile::Base => is_mbr_table(sp, object),
-        Profile::Field => is_mbr_table(sp, object) || is_datastore(sp, object),
+        Profile::Field | Profile::Opal => is_mbr_table(sp, object) || is_datastore(sp, object),
     }
 }
 
@@ -268,7 +268,7 @@ fn other_asked<'a>(
 {
     match profile {
         Profile::Base => Ok(Some(Ask::Other)),
-        Profile::Field => field_asked(alloc, method, args),
+        Profile::Field | Profile::Opal => field_asked(alloc, method, args),
     }
 }
 

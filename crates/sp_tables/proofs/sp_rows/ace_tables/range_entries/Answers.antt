@@ -1,8 +1,8 @@
 use Rattle.std.proofs.Common.{refl}
-use Rattle.basics.specs.declared.profile.Profile.TheVariants.{Base, Field}
+use Rattle.basics.specs.declared.profile.Profile.TheVariants.{Base, Field, Opal}
 use Rattle.sp_tables.specs.Factory.{range_aces, range_get_aces}
 use Rattle.sp_tables.proofs.sp_rows.ace_tables.range_entries.Goals as goal
 
 pub returns : goal.returns
 unfolding range_aces range_get_aces
-returns c = elim [ Base ↦ refl | Field ↦ refl ]
+returns c = elim [ Base ↦ refl | Field ↦ refl | Opal ↦ refl ]
