@@ -1,5 +1,5 @@
 -- What is done with a command, and its answer, is what its event says.
-use Rattle.device_data.specs.Protocols.{protocol_list}
+use Rattle.device_data.specs.Protocols.{protocol_list, certificate_data}
 use Rattle.trusted_cmds.specs.declared.command.CommandError.{CommandError}
 use Rattle.sp_cells.specs.Config.{Config}
 use Rattle.std.proofs.Common.{◌≡◌, ℕ, ◌<◌, ◌==◌, ◌*◌, Bool, true, false, List, [], ◌∷◌, ◌++◌, reverse, length, slice_index, Option, Some, None, Result, Ok, Err, is_some, refl, sym, subst, ap, ◌∙◌, if◌then◌else◌, arith}
@@ -25,18 +25,19 @@ use Rattle.shadow_mbr.specs.Stored.{StoredSectors, sector_size, sector_at, zeros
 use Rattle.transactions.specs.Sights.{look_up, committed_sight}
 use Rattle.trusted_cmds.specs.declared.command.Command.{Command}
 use Rattle.trusted_cmds.specs.declared.command.Command.TheVariants.{ReadQueued, WriteQueued, ReadDma, WriteDma, Send, Receive, Identify, ReadLog10, Flush, SetFeatures, ReadLog}
-use Rattle.trusted_cmds.specs.Commands.{is_programmatic_reset, is_protocol_list}
+use Rattle.trusted_cmds.specs.Commands.{is_programmatic_reset, is_protocol_list, is_certificate_data}
 use Rattle.trusted_cmds.specs.BlockSid.{is_block_sid, block_asked}
 use Rattle.trusted_cmds.specs.declared.block.SidBlock.{SidBlock}
 use Rattle.basics.specs.declared.profile.Profile.{Profile}
+use Rattle.basics.specs.declared.profile.Profile.TheVariants.{Base, Field, Opal}
 use Rattle.sp_cells.specs.Resets.{programmatic}
 use Rattle.history.specs.Opening.{Origin}
 use Rattle.sessions.specs.Deeds.{Begun}
 use Rattle.history.specs.Events.{Deed, Nothing, OfQueue, QueueMended, Took, WasReset, BlockedSid, Event, did, ignores}
 use Rattle.history.specs.Readers.{waiting, writing}
 use Rattle.history.specs.Facts.{Facts, facts, session_named}
-use Rattle.history.specs.Decisions.{received, aborted}
-use Rattle.history.specs.Tcg.{command_read, sent, framed, to_session, to_manager, answers, is_manager, accepted, commanded, data_read, data_of, receive_data, received_bytes}
+use Rattle.history.specs.Decisions.{received, aborted, asks_certificates}
+use Rattle.history.specs.Tcg.{command_read, sent, framed, to_session, to_manager, answers, is_manager, accepted, commanded, data_read, data_of, receive_data, certificates_or, received_bytes}
 use Rattle.history.specs.Answers.{errored, ready, answer_fis, read_by, is_holding, served_fises}
 use Rattle.history.specs.History.{Act, log}
 use Rattle.tper.specs.Tper.{Keeps as KeepsTper, IsToldOfSend, response_at}
@@ -131,13 +132,61 @@ pub protocols-data : (f : Facts) (protocol com_id blocks : ℕ) (dma : Bool)
     → is_protocol_list (Receive protocol com_id blocks dma) ≡ true
     → sized (sector_size * blocks) protocol_list ≡ data_of f (Receive protocol com_id blocks dma)
 protocols-data f protocol com_id blocks dma is =
-    sym (ap (λ (b : Bool). if b then sized (sector_size * blocks) protocol_list else receive_data f com_id (sector_size * blocks)) is)
+    sym (ap (λ (b : Bool). if b then sized (sector_size * blocks) protocol_list else certificates_or (asks_certificates f.config.profile (Receive protocol com_id blocks dma)) f com_id (sector_size * blocks)) is)
 
-pub received-data : (f : Facts) (protocol com_id blocks : ℕ) (dma : Bool)
+-- nor on that of the certificates, which an Opal drive tells
+certificate-of : (p : Profile) (command : Command) → asks_certificates p command ≡ true → is_certificate_data command ≡ true
+certificate-of Base command is = absurd (no-list is)
+certificate-of Field command is = absurd (no-list is)
+certificate-of Opal command is = is
+
+certificates-com_id : (protocol com_id blocks : ℕ) (dma : Bool)
+    → is_certificate_data (Receive protocol com_id blocks dma) ≡ true → com_id ≡ 1
+certificates-com_id protocol com_id blocks dma is = grind (arith, nat_tests)
+
+pub certificates-keeps : (d : DriveState) (o : Origin) (past : List Event) (payload : List ℕ) (command : Command) (p : Profile)
+    → asks_certificates p command ≡ true → KeepsDrive d o past
+    → KeepsDrive d o (executed (facts o past) payload command ∷ past)
+certificates-keeps d o past payload command p is k = by_command command (certificate-of p command is)
+  where
+    by_command : (c : Command) → is_certificate_data c ≡ true → KeepsDrive d o (executed (facts o past) payload c ∷ past)
+    by_command (Receive protocol com_id blocks dma) g = discovery-keeps d o past com_id blocks (certificates-com_id protocol com_id blocks dma g) k
+    by_command (Send protocol com_id blocks dma) g = absurd (no-list g)
+    by_command Identify g = absurd (no-list g)
+    by_command (ReadLog10 dma) g = absurd (no-list g)
+    by_command Flush g = absurd (no-list g)
+    by_command (SetFeatures feature) g = absurd (no-list g)
+    by_command (ReadLog page dma) g = absurd (no-list g)
+    by_command (ReadQueued lba count) g = absurd (no-list g)
+    by_command (WriteQueued lba count) g = absurd (no-list g)
+    by_command (ReadDma lba count) g = absurd (no-list g)
+    by_command (WriteDma lba count) g = absurd (no-list g)
+
+-- what is told where the list of protocols is not asked for
+other-data : (f : Facts) (protocol com_id blocks : ℕ) (dma certificates : Bool)
     → is_protocol_list (Receive protocol com_id blocks dma) ≡ false
-    → receive_data f com_id (sector_size * blocks) ≡ data_of f (Receive protocol com_id blocks dma)
-received-data f protocol com_id blocks dma is =
-    sym (ap (λ (b : Bool). if b then sized (sector_size * blocks) protocol_list else receive_data f com_id (sector_size * blocks)) is)
+    → asks_certificates f.config.profile (Receive protocol com_id blocks dma) ≡ certificates
+    → certificates_or certificates f com_id (sector_size * blocks) ≡ data_of f (Receive protocol com_id blocks dma)
+other-data f protocol com_id blocks dma certificates no is =
+    ap (λ (b : Bool). certificates_or b f com_id (sector_size * blocks)) (sym is)
+    ∙ sym (ap (λ (b : Bool). if b then sized (sector_size * blocks) protocol_list else certificates_or (asks_certificates f.config.profile (Receive protocol com_id blocks dma)) f com_id (sector_size * blocks)) no)
+
+pub certificates-data : (d : DriveState) (o : Origin) (past : List Event) (protocol com_id blocks : ℕ) (dma : Bool)
+    → is_protocol_list (Receive protocol com_id blocks dma) ≡ false
+    → asks_certificates d.tper.store.config.profile (Receive protocol com_id blocks dma) ≡ true → KeepsDrive d o past
+    → sized (sector_size * blocks) certificate_data ≡ data_of (facts o past) (Receive protocol com_id blocks dma)
+certificates-data d o past protocol com_id blocks dma no is k =
+    other-data (kept_facts d (facts o past)) protocol com_id blocks dma true no is
+    ∙ ap (λ (f : Facts). data_of f (Receive protocol com_id blocks dma)) (seen-is d o past k)
+
+pub received-data : (d : DriveState) (o : Origin) (past : List Event) (protocol com_id blocks : ℕ) (dma : Bool)
+    → is_protocol_list (Receive protocol com_id blocks dma) ≡ false
+    → asks_certificates d.tper.store.config.profile (Receive protocol com_id blocks dma) ≡ false → KeepsDrive d o past
+    → receive_data (facts o past) com_id (sector_size * blocks) ≡ data_of (facts o past) (Receive protocol com_id blocks dma)
+received-data d o past protocol com_id blocks dma no is k =
+    ap (λ (f : Facts). receive_data f com_id (sector_size * blocks)) (sym (seen-is d o past k))
+    ∙ other-data (kept_facts d (facts o past)) protocol com_id blocks dma false no is
+    ∙ ap (λ (f : Facts). data_of f (Receive protocol com_id blocks dma)) (seen-is d o past k)
 
 pub discovery-data : (d : DriveState) (o : Origin) (past : List Event) (com_id room : ℕ) → com_id ≡ 1 → KeepsDrive d o past
     → sized room (discovery_of d.tper.store.config.profile (look_up (committed_sight d.tper.store)) d.tper.live.block) ≡ receive_data (facts o past) com_id room

@@ -1,7 +1,7 @@
 -- The two settings of an Activate fit the factory's tables.
 use Rattle.std.proofs.Common.{◌≡◌, ◌≤◌, ℕ, List, length, None, refl}
 use Rattle.basics.specs.declared.profile.Profile.{Profile}
-use Rattle.basics.specs.declared.profile.Profile.TheVariants.{Base, Field}
+use Rattle.basics.specs.declared.profile.Profile.TheVariants.{Base, Field, Opal}
 use Rattle.std.proofs.lemmas.Bool.{le-leb}
 use Rattle.sp_cells.specs.Config.{Config}
 use Rattle.sp_cells.specs.Names.{locking_sp, admin_pin_uid}
@@ -24,6 +24,7 @@ fits : (profile : Profile) (sectors mbr_sectors : ℕ) (msid serial model psid :
 unfolding admin_sps admin_authorities label_authorities locking_authorities admin_pins label_pins locking_pins admin_aces label_aces removal_aces data_removals
 fits Base sectors mbr_sectors msid serial model psid datastore short = rw (le-leb (length msid) 32 short) refl
 fits Field sectors mbr_sectors msid serial model psid datastore short = rw (le-leb (length msid) 32 short) refl
+fits Opal sectors mbr_sectors msid serial model psid datastore short = rw (le-leb (length msid) 32 short) refl
 
 pub pin_fits : (config : Config) → length config.msid ≤ 32 → set_fault (manufactured_contents config) Locking (admin_pin_uid 1) (pin config.msid) ≡ None
 pin_fits config short = fits config.profile config.sectors config.mbr_sectors config.msid config.serial config.model config.psid config.datastore short

@@ -2,7 +2,7 @@
 use Rattle.std.proofs.Common.{◌≡◌, ◌∙◌, ℕ, ◌*◌, ◌==◌, Bool, true, false, not, Option, Some, None, Result, Ok, Err, refl, sym, ap, cond, eqb-true}
 use Rattle.std.specs.Prelude.{option_map}
 use Rattle.basics.specs.declared.profile.Profile.{Profile}
-use Rattle.basics.specs.declared.profile.Profile.TheVariants.{Base, Field}
+use Rattle.basics.specs.declared.profile.Profile.TheVariants.{Base, Field, Opal}
 use Rattle.fis.specs.declared.h2d.RegH2d.{RegH2d}
 use Rattle.locking.specs.declared.range.Op.{Op}
 use Rattle.locking.specs.declared.range.Op.TheVariants.{Read, Write}
@@ -12,7 +12,7 @@ use Rattle.trusted_cmds.specs.declared.command.CommandError.{CommandError}
 use Rattle.trusted_cmds.specs.declared.feature.Feature.{Feature}
 use Rattle.trusted_cmds.specs.declared.log_pages.LogPages.{LogPages}
 use Rattle.trusted_cmds.specs.Commands.{reading, fault_of, read_unless, command_without_sectors, read_queued, write_queued, read_dma, write_dma, is_send, is_receive, is_log_read, identify_device, read_log_dma, set_features, has_lba_bit, sectors, blocks, sector_size, payload_length}
-use Rattle.trusted_cmds.specs.Profiles.{reading_in, read_or, beside, payload_length_in, short_read_dma, short_write_dma, short_flush_cache, short_lba, short_sectors, is_short_transfer, short_transfer, beside_without_sectors, feature_named, pages_named}
+use Rattle.trusted_cmds.specs.Profiles.{reading_in, read_or, beside, payload_length_in, field_payload_length, short_read_dma, short_write_dma, short_flush_cache, short_lba, short_sectors, is_short_transfer, short_transfer, beside_without_sectors, feature_named, pages_named}
 use Rattle.history.proofs.SectorProofs.{write-size}
 use Rattle.drive.specs.Transfer.{by_op, unqueued_command, payload_size_of}
 use Rattle.drive.specs.declared.transfer.Transfer.{Transfer}
@@ -113,20 +113,21 @@ base-none h is =
     ap (λ (n : ℕ). cond (n == write_dma) (sector_size * sectors h.count) (cond (is_send n) (sector_size * blocks h) 0))
     (eqb-true h.command read_dma is)
 
-field-none : (h : RegH2d) (code : ℕ) → (h.command == code) ≡ true → lengths h code ≡ 0 → payload_length_in Field h ≡ 0
+field-none : (h : RegH2d) (code : ℕ) → (h.command == code) ≡ true → lengths h code ≡ 0 → field_payload_length h ≡ 0
 field-none h code is none = ap (lengths h) (eqb-true h.command code is) ∙ none
+
+field-size : (h : RegH2d) (lba count : ℕ) (r : Result (Command × Option ℕ) CommandError) (more : Option Command) → reading h ≡ r → beside h ≡ more
+    → ◌≡◌ {A = Result (Command × Option ℕ) CommandError} (read_or r more) (Ok (ReadDma lba count, None))
+    → field_payload_length h ≡ 0
+field-size h lba count (Ok x) more is m k = field-none h read_dma (base-code h lba count (fault_of h) (is ∙ k)) refl
+field-size h lba count (Err error) None is m k = absurd (no-error k)
+field-size h lba count (Err error) (Some c) is m k =
+    field-none h short_read_dma (short-read h lba count (m ∙ ap (λ x. Some x) (ok-command k))) refl
 
 read-size : (p : Profile) (h : RegH2d) (lba count : ℕ) → reading_in p h ≡ Ok (ReadDma lba count, None) → payload_length_in p h ≡ 0
 read-size Base h lba count g = base-none h (base-code h lba count (fault_of h) g)
-read-size Field h lba count g = by_read (reading h) (beside h) refl refl g
-  where
-    by_read : (r : Result (Command × Option ℕ) CommandError) (more : Option Command) → reading h ≡ r → beside h ≡ more
-        → ◌≡◌ {A = Result (Command × Option ℕ) CommandError} (read_or r more) (Ok (ReadDma lba count, None))
-        → payload_length_in Field h ≡ 0
-    by_read (Ok x) more is m k = field-none h read_dma (base-code h lba count (fault_of h) (is ∙ k)) refl
-    by_read (Err error) None is m k = absurd (no-error k)
-    by_read (Err error) (Some c) is m k =
-        field-none h short_read_dma (short-read h lba count (m ∙ ap (λ x. Some x) (ok-command k))) refl
+read-size Field h lba count g = field-size h lba count (reading h) (beside h) refl refl g
+read-size Opal h lba count g = field-size h lba count (reading h) (beside h) refl refl g
 
 -- What an unqueued transfer wants is what its command brings.
 sized : (p : Profile) (h : RegH2d) (op : Op) (lba count : ℕ)

@@ -1,5 +1,5 @@
 -- What the history makes of a command, step by step, by what the drive found of it.
-use Rattle.basics.specs.declared.profile.Profile.TheVariants.{Base, Field}
+use Rattle.basics.specs.declared.profile.Profile.TheVariants.{Base, Field, Opal}
 use Rattle.basics.specs.declared.profile.Profile.{Profile}
 use Rattle.trusted_cmds.specs.Profiles.{CarriesIn}
 use Rattle.std.proofs.Common.{◌≡◌, ◌==◌, slice_index, ℕ, Bool, true, false, not, ◌&&◌, ◌||◌, List, Option, Some, None, is_some, option_map, Result, Ok, refl, sym, ap, ◌∙◌, cond, inl, inr}
@@ -96,6 +96,8 @@ log-untagged p h dma None w = refl
 log-untagged Base h dma (Some tag) w = absurd w
 log-untagged Field h dma (Some tag) (inl w) = absurd w
 log-untagged Field h dma (Some tag) (inr w) = absurd w
+log-untagged Opal h dma (Some tag) (inl w) = absurd w
+log-untagged Opal h dma (Some tag) (inr w) = absurd w
 
 -- what was read of the FIS
 pub known-some : (f : Facts) (h : RegH2d) (payload : List ℕ) (r : Result (Command × Option ℕ) CommandError) (c : Command) (x : Option ℕ) (tag : ℕ)

@@ -1,5 +1,5 @@
 -- A queued transfer as it is read, and that it is held at once where its tag is free and it is permitted.
-use Rattle.basics.specs.declared.profile.Profile.TheVariants.{Base, Field}
+use Rattle.basics.specs.declared.profile.Profile.TheVariants.{Base, Field, Opal}
 use Rattle.basics.specs.declared.profile.Profile.{Profile}
 use Rattle.std.proofs.Common.{◌≡◌, ℕ, Bool, true, false, not, ◌&&◌, List, Option, Some, is_some, option_map, Result, Ok, refl, sym, ap, ◌∙◌}
 use Rattle.fis.specs.declared.h2d.RegH2d.{RegH2d}
@@ -27,6 +27,7 @@ use Rattle.drive.proofs.Commands.{admits-read, admits-write, known-some, command
 in-each : (p : Profile) (h : RegH2d) (r : Command × Option ℕ) → reading h ≡ Ok r → reading_in p h ≡ Ok r
 in-each Base h r is = is
 in-each Field h r is = ap (λ (x : Result (Command × Option ℕ) CommandError). read_or x (beside h)) is
+in-each Opal h r is = ap (λ (x : Result (Command × Option ℕ) CommandError). read_or x (beside h)) is
 
 reads : (h : RegH2d) (op : Op) → h.is_command ≡ true → has_lba_bit h.device ≡ true → h.command ≡ by_op op read_queued write_queued
     → reading h ≡ Ok (queued_command (transfer_by op h.lba (sectors h.feature)), Some (tag_of h))

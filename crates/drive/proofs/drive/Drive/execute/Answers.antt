@@ -2,6 +2,7 @@ use Rattle.std.proofs.Common.{◌≡◌, ◌*◌, ◌∙◌, ap, sym, subst, ref
 use Rattle.shadow_mbr.specs.Stored.{sector_size}
 use Rattle.trusted_cmds.specs.declared.command.Command.{Command}
 use Rattle.trusted_cmds.specs.declared.command.Command.TheVariants.{Identify, ReadLog}
+use Rattle.history.specs.Decisions.{asks_certificates}
 use Rattle.history.specs.Tcg.{data_of, receive_data}
 use Rattle.history.specs.Facts.{Facts, facts}
 use Rattle.history.specs.History.{log}
@@ -9,7 +10,7 @@ use Rattle.drive.specs.Decision.{executed}
 use Rattle.drive.specs.State.{KeepsDrive}
 use Rattle.drive.proofs.Keeping.{seen-is, nothing-keeps, mended-keeps, chosen-keeps}
 use Rattle.trusted_cmds.specs.Commands.{is_protocol_list}
-use Rattle.drive.proofs.Acting.{protocols-keeps, received-data}
+use Rattle.drive.proofs.Acting.{protocols-keeps, certificates-keeps, certificates-data, received-data}
 use Rattle.drive.proofs.drive.Drive.execute.Goals as goal
 
 pub returns-in_ok-bytes-in-Receive-clause-kept : goal.returns-in_ok-bytes-in-Receive-clause-kept
@@ -21,8 +22,9 @@ pub returns-in_ok-bytes-in-Receive-clause-data : goal.returns-in_ok-bytes-in-Rec
 returns-in_ok-bytes-in-Receive-clause-data c = λ o acts k.
     subst (λ (x : Command). c.in_ok-bytes-in-Receive.bytes.items ≡ data_of (facts o (log o acts)) x) (sym c.in-Receive.is)
     (c.in_ok-bytes-in-Receive.ensures.data o acts k ∙ ap (λ (n : ℕ). receive_data (facts o (log o acts)) c.in-Receive.sp_specific (sector_size * n)) c.from-room.ensures
-    ∙ received-data (facts o (log o acts)) c.in-Receive.protocol c.in-Receive.sp_specific c.in-Receive.blocks c.in-Receive.dma
-    (ap is_protocol_list (sym c.in-Receive.is) ∙ sym c.is_protocol_list.ensures ∙ c.if-is_protocol_list.false))
+    ∙ received-data c.args.self.now o (log o acts) c.in-Receive.protocol c.in-Receive.sp_specific c.in-Receive.blocks c.in-Receive.dma
+    (ap is_protocol_list (sym c.in-Receive.is) ∙ sym c.is_protocol_list.ensures ∙ c.if-is_protocol_list.false)
+    (ap (asks_certificates c.args.self.now.tper.store.config.profile) (sym c.in-Receive.is) ∙ sym c.asks_certificates.ensures ∙ c.if-asks_certificates.false) k)
 
 pub returns-in_ok-identify-in-Identify-clause-kept : goal.returns-in_ok-identify-in-Identify-clause-kept
 returns-in_ok-identify-in-Identify-clause-kept c = λ o acts k.
@@ -63,3 +65,8 @@ pub returns-then-is_protocol_list-clause-kept : goal.returns-then-is_protocol_li
 returns-then-is_protocol_list-clause-kept c = λ o acts k.
     protocols-keeps c.args.self.now o (log o acts) c.args.payload.now c.args.command.now
     (sym c.is_protocol_list.ensures ∙ c.if-is_protocol_list.true) k
+
+pub returns-then-asks_certificates-clause-kept : goal.returns-then-asks_certificates-clause-kept
+returns-then-asks_certificates-clause-kept c = λ o acts k.
+    certificates-keeps c.args.self.now o (log o acts) c.args.payload.now c.args.command.now _
+    (sym c.asks_certificates.ensures ∙ c.if-asks_certificates.true) k
