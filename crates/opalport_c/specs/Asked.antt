@@ -79,7 +79,8 @@ pub record FitsBase (size : Size) (msid serial model psid : List ℕ) : Type 0 w
   pub datastore : size.datastore ≡ any_size
 
 -- There is one of a further profile: within the limits, with a shadow, names, a PIN on its label and a DataStore that fit.
-pub record FitsBeyond (profile : Profile) (size : Size) (msid serial model psid : List ℕ) : Type 0 where
+pub record FitsBeyond (profile : Profile) (size : Size) (msid serial model psid : List ℕ)
+    : Type 0 where
   pub limits : IsWithinLimits size.sectors size.shadow msid
   pub shadow : HasOwnShadow profile size.shadow
   pub names : AreNames (bytes_or serial new_serial) (bytes_or model new_model)

@@ -250,7 +250,8 @@ fn is_empty_text(text: Option<&str>) -> bool
 
 /// The bytes that the hex writes; where there is none, the PSID of a drive that is given none.
 fn label_in(alloc: Global, text: Option<&str>) -> Result<Vec<u8>, FromHexError>
-    ensures read { IfOk result (λ psid. label_of (option_map (λ s. s.now) text.entry) ≡ Ok psid.items) }
+    ensures read { IfOk result (λ psid. label_of (option_map (λ s. s.now) text.entry)
+        ≡ Ok psid.items) }
     ensures fault { IfErr result (λ fault. fault ≢ hex_faults.OutOfMemory
         → label_of (option_map (λ s. s.now) text.entry) ≡ Err fault) }
 {
