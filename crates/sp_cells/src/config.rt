@@ -8,8 +8,8 @@ ghost use Rattle.sp_cells.specs.Limits.{most_mbr_sectors, most_datastore_bytes, 
 
 use crate::byte_tables::TableSizes;
 use crate::limits::{
-    LEAST_OPAL_DATASTORE_BYTES, MOST_DATASTORE_BYTES, MOST_MBR_SECTORS, MOST_MODEL_BYTES, MOST_PIN_BYTES, MOST_SERIAL_BYTES,
-    NEW_DATASTORE_BYTES, OPAL_MBR_SECTORS,
+    LEAST_OPAL_DATASTORE_BYTES, MOST_DATASTORE_BYTES, MOST_MBR_SECTORS, MOST_MODEL_BYTES,
+    MOST_PIN_BYTES, MOST_SERIAL_BYTES, NEW_DATASTORE_BYTES, OPAL_MBR_SECTORS,
 };
 use arrayvec::ArrayVec;
 use basics::{ADDRESS_LIMIT, Profile};

@@ -20,5 +20,7 @@ pub use fields::{sectors, tag_of};
 pub use log_pages::LogPages;
 pub use payload::{SECTOR_SIZE, payload_len};
 pub use reading::{laws_of_profiles, of_fis};
-pub use reset::{RESET_COM_ID, RESET_PROTOCOL, is_certificate_data, is_programmatic_reset, is_protocol_list};
+pub use reset::{
+    RESET_COM_ID, RESET_PROTOCOL, is_certificate_data, is_programmatic_reset, is_protocol_list,
+};
 pub use spelling::to_fis;
