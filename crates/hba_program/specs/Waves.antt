@@ -3,25 +3,25 @@ use Rattle.std.specs.Prelude.{◌≡◌, ℕ, Bool, List, [], ◌∷◌, ◌++�
 use Rattle.history.specs.Opening.{Origin}
 use Rattle.drive.specs.State.{DriveState, Agrees}
 use Rattle.hba.specs.History.{Operation, AgreesHba}
-use Rattle.hba_waves.specs.Looks.{Frame, frame_after}
+use Rattle.hba_waves.specs.Looks.{Shown, moment_after}
 use Rattle.hba_waves.specs.Written.{GoesOnIf}
 use Rattle.hba_waves.specs.declared.writer.Dump.{Dump}
 use Rattle.hba_program.specs.Steps.{Stand, DoneLine, DoesAll, ServesHost}
 
--- the frames of lines that were done, the last first: of each by its number, and by a list of operations that the controller
+-- the moments of lines that were done, the last first: of each by its number, and by a list of operations that the controller
 -- agrees with behind it
-unfoldable pub FramesOf : Origin → List DoneLine → List Frame → Type 0
-FramesOf o [] frames = frames ≡ []
-FramesOf o (line ∷ lines) frames =
-    (earlier : List Frame) × (list : List Operation) × FramesOf o lines earlier
-    × AgreesHba line.hba o list × (frames ≡ earlier ++ frame_after o line.number list ∷ [])
+unfoldable pub ShownBy : Origin → List DoneLine → List Shown → Type 0
+ShownBy o [] moments = moments ≡ []
+ShownBy o (line ∷ lines) moments =
+    (earlier : List Shown) × (list : List Operation) × ShownBy o lines earlier
+    × AgreesHba line.hba o list × (moments ≡ earlier ++ moment_after o line.number list ∷ [])
 
 -- the dump shows the start, and what these lines left
 abbrev pub ShowsLines : {D : Type 0} → (D → Option (List ℕ)) → Origin → List Operation
     → List DoneLine → Option (Dump D) → Option (Dump D) → Type 0
 ShowsLines contents o list lines old new =
-    (frames : List Frame) × FramesOf o lines frames
-    × GoesOnIf contents (frame_after o 0 list ∷ frames) old new
+    (moments : List Shown) × ShownBy o lines moments
+    × GoesOnIf contents (moment_after o 0 list ∷ moments) old new
 
 -- the lines of a host are done, to a status, and shown
 pub record DoesAllWaved {R W D : Type 0} (remaining : R → Option (List ℕ))
@@ -31,7 +31,7 @@ pub record DoesAllWaved {R W D : Type 0} (remaining : R → Option (List ℕ))
   pub shows : (o : Origin) (list : List Operation) → AgreesHba before.hba o list
       → ShowsLines dumped o list does.left old new
 
--- A host is served to the end of its lines, and the dump, where one is wanted, is exactly that of the frames which its lines
+-- A host is served to the end of its lines, and the dump, where one is wanted, is exactly that of the moments which its lines
 -- left behind.
 pub record ServesWaved {R W D : Type 0} (remaining : R → Option (List ℕ))
     (contents : W → Option (List ℕ)) (dumped : D → Option (List ℕ)) (explains : Bool)

@@ -9,8 +9,8 @@ use Rattle.hba_waves.specs.declared.words.Words.{Words}
 use Rattle.hba_waves.specs.declared.look.Look.{Look}
 
 -- the registers by their offsets (AHCI 1.3.1, sections 3.1 and 3.3); those of the port stand from 100h on
-abbrev pub words_of : Registers → Words
-words_of regs = record {
+abbrev pub words_shown : Registers → Words
+words_shown regs = record {
   control = word_at regs 0x4;
   pending = word_at regs 0x8;
   interrupts = word_at regs 0x110;
@@ -28,15 +28,15 @@ words_of regs = record {
 abbrev pub look_after : Origin → List Operation → Look
 look_after o list = record {
   drive = drive_sample o (acts_of o list);
-  words = words_of (regs_of o list);
+  words = words_shown (regs_of o list);
   line = line (regs_of o list);
 }
 
 -- what a line of a host left behind: its number, and what a look shows then; that of the start has the number 0
-pub record Frame : Type 0 where
+pub record Shown : Type 0 where
   pub number : ℕ
   pub look : Look
 
 -- behind a line of this number, by the operations up to it
-abbrev pub frame_after : Origin → ℕ → List Operation → Frame
-frame_after o number list = record { number = number; look = look_after o list }
+abbrev pub moment_after : Origin → ℕ → List Operation → Shown
+moment_after o number list = record { number = number; look = look_after o list }

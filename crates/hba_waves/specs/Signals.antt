@@ -6,21 +6,21 @@ use Rattle.hba_waves.specs.declared.words.Words.{Words}
 use Rattle.hba_waves.specs.declared.signal.Signal.{Signal}
 use Rattle.hba_waves.specs.declared.signal.Signal.TheVariants.{Issued, Active, Interrupts, Enabled, Task, Command, Link, Errors, Signature, Control, Pending, Line, Drive}
 
--- The signals from the first: registers of the port (AHCI 1.3.1, section 3.3) and of the controller (section 3.1), the
--- interrupt line, and of the drive what the dump of a script shows, but for the stages of slots: a driver has none.
+-- The signals from the first: registers of the controller and of its port by their offsets (AHCI 1.3.1, sections 3.1 and
+-- 3.3), the interrupt line, and of the drive what the dump of a script shows, but for the stages of slots: a driver has none.
 abbrev pub signal_at : ℕ → Signal
 signal_at place =
-    if place == 0 then Issued
-    else if place == 1 then Active
+    if place == 0 then Control
+    else if place == 1 then Pending
     else if place == 2 then Interrupts
     else if place == 3 then Enabled
-    else if place == 4 then Task
-    else if place == 5 then Command
-    else if place == 6 then Link
-    else if place == 7 then Errors
-    else if place == 8 then Signature
-    else if place == 9 then Control
-    else if place == 10 then Pending
+    else if place == 4 then Command
+    else if place == 5 then Task
+    else if place == 6 then Signature
+    else if place == 7 then Link
+    else if place == 8 then Errors
+    else if place == 9 then Active
+    else if place == 10 then Issued
     else if place == 11 then Line
     else if nat_le place 49 then Drive (wave_at (place - 5))
     else Drive (wave_at (place + 27))
@@ -53,23 +53,23 @@ signal_bits (Drive wave) = wave_bits wave
 signal_bits Line = 1
 signal_bits signal = 32
 
-abbrev pub register_value : Signal → Words → ℕ
-register_value Issued words = words.issued
-register_value Active words = words.active
-register_value Interrupts words = words.interrupts
-register_value Enabled words = words.enabled
-register_value Task words = words.task
-register_value Command words = words.command
-register_value Link words = words.link
-register_value Errors words = words.errors
-register_value Signature words = words.signature
-register_value Control words = words.control
-register_value Pending words = words.pending
-register_value Line words = 0
-register_value (Drive wave) words = 0
+abbrev pub word_value : Signal → Words → ℕ
+word_value Issued words = words.issued
+word_value Active words = words.active
+word_value Interrupts words = words.interrupts
+word_value Enabled words = words.enabled
+word_value Task words = words.task
+word_value Command words = words.command
+word_value Link words = words.link
+word_value Errors words = words.errors
+word_value Signature words = words.signature
+word_value Control words = words.control
+word_value Pending words = words.pending
+word_value Line words = 0
+word_value (Drive wave) words = 0
 
 -- the value of a signal in a look
 abbrev pub signal_value : Signal → Look → ℕ
 signal_value (Drive wave) look = wave_value wave look.drive
 signal_value Line look = flag_value look.line
-signal_value signal look = register_value signal look.words
+signal_value signal look = word_value signal look.words

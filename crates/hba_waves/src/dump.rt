@@ -2,7 +2,7 @@
 
 ghost use Rattle.std.specs.Prelude.{◌≡◌, ◌++◌, OnOk, option_copied};
 ghost use Rattle.hba_waves.specs.Signals.{signal_count};
-ghost use Rattle.hba_waves.specs.Dumps.{signals_to, first_values_to, new_values_to, dump_head, first_text, start_text, moment_text, look_text};
+ghost use Rattle.hba_waves.specs.Dumps.{signals_to, first_values_to, new_values_to, signals_head, start_values, start_text, later_text, look_text};
 
 use crate::look::Look;
 use crate::signal::{SIGNALS, signal_at, signal_bits, signal_name, signal_value};
@@ -19,13 +19,7 @@ fn append_signals(alloc: Global, text: &mut Vec<u8>) -> Result<(), AllocError>
     for place in 0..SIGNALS {
         let signal = signal_at(place);
         let name = signal_name(alloc, signal)?;
-        append_declaration(
-            alloc,
-            text,
-            usize::from(place),
-            signal_bits(signal),
-            &name,
-        )?;
+        append_declaration(alloc, text, usize::from(place), signal_bits(signal), &name)?;
     }
     Ok(())
 }
@@ -58,9 +52,9 @@ fn append_new_values(text: &mut Vec<u8>, before: &Look, look: &Look) -> Result<(
 }
 
 /// Appends the declarations, with what stands around them.
-#[tactic(auto, unfolding(crate::specs::Dumps::dump_head))]
+#[tactic(auto, unfolding(crate::specs::Dumps::signals_head))]
 fn append_head(alloc: Global, text: &mut Vec<u8>) -> Result<(), AllocError>
-    ensures { OnOk result (text.new.items ≡ text.old.items ++ dump_head) }
+    ensures { OnOk result (text.new.items ≡ text.old.items ++ signals_head) }
 {
     append_preamble(text)?;
     append_signals(alloc, text)?;
@@ -69,9 +63,9 @@ fn append_head(alloc: Global, text: &mut Vec<u8>) -> Result<(), AllocError>
 }
 
 /// Appends the values at time 0.
-#[tactic(auto, unfolding(crate::specs::Dumps::first_text))]
+#[tactic(auto, unfolding(crate::specs::Dumps::start_values))]
 fn append_first(text: &mut Vec<u8>, look: &Look) -> Result<(), AllocError>
-    ensures { OnOk result (text.new.items ≡ text.old.items ++ first_text look.now) }
+    ensures { OnOk result (text.new.items ≡ text.old.items ++ start_values look.now) }
 {
     append_values_begin(text)?;
     append_first_values(text, look)?;
@@ -88,7 +82,7 @@ fn append_moment(
     look: &Look,
 ) -> Result<(), AllocError>
     ensures { OnOk result (text.new.items
-        ≡ text.old.items ++ moment_text time before.now look.now) }
+        ≡ text.old.items ++ later_text time before.now look.now) }
 {
     append_time(alloc, text, time)?;
     append_new_values(text, before, look)?;

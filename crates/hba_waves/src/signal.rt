@@ -1,7 +1,7 @@
 //! A signal of a controller's dump.
 
 ghost use Rattle.std.specs.Prelude.{◌≡◌, ◌<◌, IfOk};
-ghost use Rattle.hba_waves.specs.Signals.{signal_at, signal_count, register_name, signal_name, signal_bits, register_value, signal_value};
+ghost use Rattle.hba_waves.specs.Signals.{signal_at, signal_count, register_name, signal_name, signal_bits, word_value, signal_value};
 
 use crate::look::Look;
 use crate::words::Words;
@@ -11,28 +11,28 @@ use std::alloc::{AllocError, Global};
 /// A signal of a controller's dump.
 #[derive(Clone, Copy, Debug, PartialEq, Eq)]
 pub enum Signal {
-    /// PxCI.
-    Issued,
-    /// PxSACT.
-    Active,
-    /// PxIS.
-    Interrupts,
-    /// PxIE.
-    Enabled,
-    /// PxTFD.
-    Task,
-    /// PxCMD.
-    Command,
-    /// PxSSTS.
-    Link,
-    /// PxSERR.
-    Errors,
-    /// PxSIG.
-    Signature,
     /// GHC.
     Control,
     /// IS.
     Pending,
+    /// PxIS.
+    Interrupts,
+    /// PxIE.
+    Enabled,
+    /// PxCMD.
+    Command,
+    /// PxTFD.
+    Task,
+    /// PxSIG.
+    Signature,
+    /// PxSSTS.
+    Link,
+    /// PxSERR.
+    Errors,
+    /// PxSACT.
+    Active,
+    /// PxCI.
+    Issued,
     /// The interrupt line.
     Line,
     /// What the drive behind it shows.
@@ -48,17 +48,17 @@ pub fn signal_at(place: u8) -> Signal
     ensures { result ≡ signal_at place }
 {
     match place {
-        0 => Signal::Issued,
-        1 => Signal::Active,
+        0 => Signal::Control,
+        1 => Signal::Pending,
         2 => Signal::Interrupts,
         3 => Signal::Enabled,
-        4 => Signal::Task,
-        5 => Signal::Command,
-        6 => Signal::Link,
-        7 => Signal::Errors,
-        8 => Signal::Signature,
-        9 => Signal::Control,
-        10 => Signal::Pending,
+        4 => Signal::Command,
+        5 => Signal::Task,
+        6 => Signal::Signature,
+        7 => Signal::Link,
+        8 => Signal::Errors,
+        9 => Signal::Active,
+        10 => Signal::Issued,
         11 => Signal::Line,
         12..=49 => Signal::Drive(wave_at(place - 5)),
         _ => Signal::Drive(wave_at(place + 27)),
@@ -113,8 +113,8 @@ pub fn signal_bits(signal: Signal) -> u8
 }
 
 /// The value of a register.
-fn register_value(signal: Signal, words: &Words) -> u32
-    ensures { result ≡ register_value signal words.now }
+fn word_value(signal: Signal, words: &Words) -> u32
+    ensures { result ≡ word_value signal words.now }
 {
     match signal {
         Signal::Issued => words.issued,
@@ -139,6 +139,6 @@ pub fn signal_value(signal: Signal, look: &Look) -> u64
     match signal {
         Signal::Drive(wave) => wave_value(wave, &look.drive),
         Signal::Line => u64::from(look.line),
-        _ => u64::from(register_value(signal, &look.words)),
+        _ => u64::from(word_value(signal, &look.words)),
     }
 }

@@ -31,11 +31,11 @@ pub struct Words {
 
 impl Words {
     ghost use Rattle.std.specs.Prelude.{◌≡◌};
-    ghost use Rattle.hba_waves.specs.Looks.{words_of};
+    ghost use Rattle.hba_waves.specs.Looks.{words_shown};
 
     /// The registers of a controller.
     pub fn of(hba: &Hba) -> Words
-        ensures { result ≡ words_of hba.now.registers }
+        ensures { result ≡ words_shown hba.now.registers }
     {
         Words {
             control: hba.read(0x4),

@@ -3,7 +3,7 @@
 ghost use Rattle.std.specs.Prelude.{◌≡◌, ◌∷◌, [], List, OnOk};
 ghost use Rattle.history.specs.Opening.{Origin};
 ghost use Rattle.hba.specs.History.{Operation, AgreesHba};
-ghost use Rattle.hba_waves.specs.Looks.{frame_after};
+ghost use Rattle.hba_waves.specs.Looks.{moment_after};
 ghost use Rattle.hba_waves.specs.Written.{GoesOnIf};
 
 use crate::dump::append_look;
@@ -71,13 +71,7 @@ impl<D: Write + Drop> Dump<D> {
         ensures shown { OnOk result (self.new.shown ≡ Some look) }
     {
         self.text.clear();
-        append_look(
-            self.alloc,
-            &mut self.text,
-            self.shown.as_ref(),
-            time,
-            &look,
-        )?;
+        append_look(self.alloc, &mut self.text, self.shown.as_ref(), time, &look)?;
         self.shown = Some(look);
         Ok(())
     }
@@ -102,7 +96,7 @@ impl<D: Write + Drop> Dump<D> {
     /// An allocation was refused, or the writer failed.
     pub fn show(&mut self, time: u64, hba: &Hba) -> Result<(), DumpError>
         ensures { OnOk result ((o : Origin) (list : List Operation) → AgreesHba hba.now o list
-            → GoesOn D.contents (frame_after o time list ∷ []) self.old self.new) }
+            → GoesOn D.contents (moment_after o time list ∷ []) self.old self.new) }
     {
         let look = Look::of(self.alloc, hba)?;
         self.append(time, look)?;
@@ -121,7 +115,7 @@ pub fn show_if<D: Write + Drop>(
     hba: &Hba,
 ) -> Result<(), DumpError>
     ensures { OnOk result ((o : Origin) (list : List Operation) → AgreesHba hba.now o list
-        → GoesOnIf D.contents (frame_after o time list ∷ []) dump.old dump.new) }
+        → GoesOnIf D.contents (moment_after o time list ∷ []) dump.old dump.new) }
 {
     match dump {
         Some(dump) => dump.show(time, hba),

@@ -2,7 +2,7 @@
 use Rattle.std.proofs.Common.{◌≡◌, ◌∙◌, ℕ, zero, suc, Bool, true, false, List, [], ◌∷◌, ◌++◌, Option, Some, None, Result, Ok, Err, refl, sym, subst}
 use Rattle.history.specs.Opening.{Origin}
 use Rattle.hba.specs.History.{State, Operation, AgreesHba}
-use Rattle.hba_waves.specs.Looks.{Frame, frame_after}
+use Rattle.hba_waves.specs.Looks.{Shown, moment_after}
 use Rattle.hba_waves.specs.Written.{GoesOnIf}
 use Rattle.hba_waves.specs.declared.writer.Dump.{Dump}
 use Rattle.hba_waves.proofs.Going.{then_on_if}
@@ -11,7 +11,7 @@ use Rattle.hba_program.specs.declared.hba_lines.request.Request.{Request}
 use Rattle.hba_program.specs.declared.hba_lines.request.Request.TheVariants as asks
 use Rattle.hba_program.specs.declared.hba_lines.request.RequestFault.{RequestFault}
 use Rattle.hba_program.specs.Steps.{Stand, DoneLine, WorksIf, TellsUnless, TurnsOn, Turns, RunsOut, AnswersHost, DoesLine, DoesHere, ReadsLine}
-use Rattle.hba_program.specs.Waves.{FramesOf}
+use Rattle.hba_program.specs.Waves.{ShownBy}
 
 -- a controller agrees with a list of operations
 abbrev pub Agreed : Origin → State → Type 0
@@ -87,14 +87,14 @@ did_line remaining contents number (Err fault) o before after d agreed = same_hb
 abbrev pub GoneOn : {D : Type 0} → (D → Option (List ℕ)) → Origin → List Operation → List DoneLine → State
     → Option (Dump D) → Option (Dump D) → Type 0
 GoneOn contents o list lines hba old new =
-    Agreed o hba × ((frames : List Frame) × FramesOf o lines frames
-    × GoesOnIf contents (frame_after o 0 list ∷ frames) old new)
+    Agreed o hba × ((moments : List Shown) × ShownBy o lines moments
+    × GoesOnIf contents (moment_after o 0 list ∷ moments) old new)
 
 -- the start is shown
 pub begins : {D : Type 0} (contents : D → Option (List ℕ)) (o : Origin) (list : List Operation) (hba : State)
     (old new : Option (Dump D)) → AgreesHba hba o list
-    → GoesOnIf contents (frame_after o 0 list ∷ []) old new → GoneOn contents o list [] hba old new
-unfolding FramesOf
+    → GoesOnIf contents (moment_after o 0 list ∷ []) old new → GoneOn contents o list [] hba old new
+unfolding ShownBy
 begins contents o list hba old new agrees goes = ((list, agrees), [], refl, goes)
 
 -- a line is read and done, and what it left is shown
@@ -102,16 +102,16 @@ pub goes_on : {R W D : Type 0} (remaining : R → Option (List ℕ)) (contents :
     (dumped : D → Option (List ℕ)) (o : Origin) (list : List Operation) (lines : List DoneLine) (number : ℕ)
     (middle reading after : Stand R W) (old before new : Option (Dump D))
     → ReadsLine remaining true middle reading → DoesHere remaining contents number reading after
-    → ((now : List Operation) → AgreesHba after.hba o now → GoesOnIf dumped (frame_after o number now ∷ []) before new)
+    → ((now : List Operation) → AgreesHba after.hba o now → GoesOnIf dumped (moment_after o number now ∷ []) before new)
     → GoneOn dumped o list lines middle.hba old before
     → GoneOn dumped o list (record { number = number; hba = after.hba } ∷ lines) after.hba old new
-unfolding FramesOf
+unfolding ShownBy
 goes_on remaining contents dumped o list lines number middle reading after old before new reads does shows gone =
     let agreed = did_line remaining contents number _ o reading after does
     (same_hba o middle.hba reading.hba reads.hba gone.0) in (
       agreed,
-      gone.1 ++ frame_after o number agreed.0 ∷ [],
+      gone.1 ++ moment_after o number agreed.0 ∷ [],
       (gone.1, agreed.0, gone.2, agreed.1, refl),
-      then_on_if dumped (frame_after o 0 list ∷ gone.1) (frame_after o number agreed.0 ∷ []) old before new gone.3
+      then_on_if dumped (moment_after o 0 list ∷ gone.1) (moment_after o number agreed.0 ∷ []) old before new gone.3
           (shows agreed.0 agreed.1),
     )
