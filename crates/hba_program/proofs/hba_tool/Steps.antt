@@ -14,7 +14,7 @@ use Rattle.hba_program.specs.Wires.{Accesses, left_of, SameWriter, SameMarks, Ta
 use Rattle.hba_program.specs.declared.hba_tool.session.Session.{Session}
 use Rattle.hba_program.specs.Replies.{reply_line}
 use Rattle.hba_program.specs.declared.hba_lines.reply.Reply.TheVariants as says
-use Rattle.hba_program.specs.Steps.{Stand, stand, Works, WorksIf, Rests, TellsUnless, TurnsOn, Turns, RunsOut, DoneLine, DoesLines, ReadsLine, DoesHere, DoesAll, HasNoMore, lines_status}
+use Rattle.hba_program.specs.Steps.{Stand, stand, Works, WorksIf, Rests, TellsUnless, TurnsOn, Turns, RunsOut, DoneLine, DoesLines, ReadsLine, DoesHere}
 
 -- the parts of a stand are all of it
 abbrev pub standing : {R W : Type 0} → State → Option KeptReasons → List DeniedCommand → Wire R W
@@ -149,18 +149,4 @@ reads_line remaining is_line b session old new is taken same unwritten marks = r
   same = same;
   unwritten = unwritten;
   marks = marks;
-}
-
-pub all_of : {R W : Type 0} (remaining : R → Option (List ℕ)) (contents : W → Option (List ℕ))
-    (count status : ℕ) (left : List DoneLine) (before last after : Stand R W)
-    → DoesLines remaining contents count left before last
-    → HasNoMore remaining count last after → status ≡ lines_status after.wire
-    → DoesAll remaining contents status before after
-all_of remaining contents count status left before last after lines no_more is_status = record {
-  count = count;
-  left = left;
-  last = last;
-  lines = lines;
-  no_more = no_more;
-  is_status = is_status;
 }

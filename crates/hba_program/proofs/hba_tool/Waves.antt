@@ -10,8 +10,8 @@ use Rattle.hba_program.specs.declared.hba_tool.session.Told.{Told}
 use Rattle.hba_program.specs.declared.hba_lines.request.Request.{Request}
 use Rattle.hba_program.specs.declared.hba_lines.request.Request.TheVariants as asks
 use Rattle.hba_program.specs.declared.hba_lines.request.RequestFault.{RequestFault}
-use Rattle.hba_program.specs.Steps.{Stand, DoneLine, WorksIf, TellsUnless, TurnsOn, Turns, RunsOut, AnswersHost, DoesLine, DoesHere, ReadsLine}
-use Rattle.hba_program.specs.Waves.{ShownBy}
+use Rattle.hba_program.specs.Steps.{Stand, DoneLine, WorksIf, TellsUnless, TurnsOn, Turns, RunsOut, AnswersHost, DoesLine, DoesLines, DoesHere, ReadsLine, HasNoMore, lines_status}
+use Rattle.hba_program.specs.Waves.{ShownBy, ShowsLines, DoesAllWaved}
 
 -- a controller agrees with a list of operations
 abbrev pub Agreed : Origin → State → Type 0
@@ -95,7 +95,7 @@ pub begins : {D : Type 0} (contents : D → Option (List ℕ)) (o : Origin) (lis
     (old new : Option (Dump D)) → AgreesHba hba o list
     → GoesOnIf contents (moment_after o 0 list ∷ []) old new → GoneOn contents o list [] hba old new
 unfolding ShownBy
-begins contents o list hba old new agrees goes = ((list, agrees), [], refl, goes)
+begins contents o list hba old new agrees goes = ((list, agrees), ([], refl, goes))
 
 -- a line is read and done, and what it left is shown
 pub goes_on : {R W D : Type 0} (remaining : R → Option (List ℕ)) (contents : W → Option (List ℕ))
@@ -108,10 +108,32 @@ pub goes_on : {R W D : Type 0} (remaining : R → Option (List ℕ)) (contents :
 unfolding ShownBy
 goes_on remaining contents dumped o list lines number middle reading after old before new reads does shows gone =
     let agreed = did_line remaining contents number _ o reading after does
-    (same_hba o middle.hba reading.hba reads.hba gone.0) in (
+    (same_hba o middle.hba reading.hba reads.hba gone.0) in
+    let (moments, shown, goes) = gone.1 in (
       agreed,
-      gone.1 ++ moment_after o number agreed.0 ∷ [],
-      (gone.1, agreed.0, gone.2, agreed.1, refl),
-      then_on_if dumped (moment_after o 0 list ∷ gone.1) (moment_after o number agreed.0 ∷ []) old before new gone.3
-          (shows agreed.0 agreed.1),
+      (
+        moments ++ moment_after o number agreed.0 ∷ [],
+        (moments, agreed.0, shown, agreed.1, refl),
+        then_on_if dumped (moment_after o 0 list ∷ moments) (moment_after o number agreed.0 ∷ []) old before new goes
+            (shows agreed.0 agreed.1)
+      ),
     )
+
+-- lines are done, and shown
+pub all_waved : {R W D : Type 0} (remaining : R → Option (List ℕ)) (contents : W → Option (List ℕ))
+    (dumped : D → Option (List ℕ)) (count status : ℕ) (left : List DoneLine) (before last after : Stand R W)
+    (old new : Option (Dump D)) → DoesLines remaining contents count left before last
+    → HasNoMore remaining count last after → status ≡ lines_status after.wire
+    → ((o : Origin) (list : List Operation) → AgreesHba before.hba o list → ShowsLines dumped o list left old new)
+    → DoesAllWaved remaining contents dumped status before after old new
+all_waved remaining contents dumped count status left before last after old new lines no_more is_status shows = record {
+  does = record {
+    count = count;
+    left = left;
+    last = last;
+    lines = lines;
+    no_more = no_more;
+    is_status = is_status;
+  };
+  shows = shows;
+}
