@@ -2,3 +2,4 @@ mod Rows
 mod Steps
 mod Writers
 mod Refusals
+mod Waves

@@ -10,3 +10,4 @@ pub mod Openings
 pub mod Sayings
 pub mod Explained
 pub mod Steps
+pub mod Waves

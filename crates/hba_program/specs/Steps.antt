@@ -1,5 +1,5 @@
 -- What a controller does for a host: each request, and the lines of a host to their end.
-use Rattle.std.specs.Prelude.{◌≡◌, ℕ, zero, suc, ◌+◌, ◌-◌, ◌^◌, ◌<◌, nat_lt, ◌||◌, ◌⊎◌, Bool, true, false, List, [], ◌++◌, length, Option, None, Some, IfSome, Result, Ok, Err, if◌then◌else◌}
+use Rattle.std.specs.Prelude.{◌≡◌, ℕ, zero, suc, ◌+◌, ◌-◌, ◌^◌, ◌<◌, nat_lt, ◌||◌, ◌⊎◌, Bool, true, false, List, [], ◌∷◌, ◌++◌, length, Option, None, Some, IfSome, Result, Ok, Err, if◌then◌else◌}
 use Rattle.std.specs.Io.BufRead.{strip_last}
 use Rattle.std.specs.Io.KnownBytes.{Appends}
 use Rattle.shadow_mbr.specs.Stored.{sector_at}
@@ -205,14 +205,22 @@ DoesHere remaining contents number before after =
     DoesLine remaining contents number (host_request (strip_last 10 before.wire.line.items))
     before after
 
--- so many lines are read, each done before the next; the input did not end in one before the last. They are counted from 1
+-- a line that was done: its number, and the controller that it left
+pub record DoneLine : Type 0 where
+  pub number : ℕ
+  pub hba : State
+
+-- So many lines are read, each done before the next; the input did not end in one before the last. They are counted from 1,
+-- and this is what each left, the last first.
 unfoldable pub DoesLines : {R W : Type 0} → (R → Option (List ℕ)) → (W → Option (List ℕ)) → ℕ
-    → Stand R W → Stand R W → Type 0
-DoesLines remaining contents zero before after = after ≡ before
-DoesLines {R} {W} remaining contents (suc n) before after =
-    (middle : Stand R W) × (reading : Stand R W) × DoesLines remaining contents n before middle
+    → List DoneLine → Stand R W → Stand R W → Type 0
+DoesLines remaining contents zero left before after = (after ≡ before) × (left ≡ [])
+DoesLines {R} {W} remaining contents (suc n) left before after =
+    (middle : Stand R W) × (reading : Stand R W) × (earlier : List DoneLine)
+    × DoesLines remaining contents n earlier before middle
     × ReadsLine remaining true middle reading
     × DoesHere remaining contents (n + 1) reading after
+    × (left ≡ record { number = n + 1; hba = after.hba } ∷ earlier)
 
 -- the status: 2 where the input ended in a work, or a line was none
 abbrev pub lines_status : {R W : Type 0} → Wire R W → ℕ
@@ -229,8 +237,9 @@ HasNoMore remaining count last after =
 pub record DoesAll {R W : Type 0} (remaining : R → Option (List ℕ)) (contents : W → Option (List ℕ))
     (status : ℕ) (before after : Stand R W) : Type 0 where
   pub count : ℕ
+  pub left : List DoneLine
   pub last : Stand R W
-  pub lines : DoesLines remaining contents count before last
+  pub lines : DoesLines remaining contents count left before last
   pub no_more : HasNoMore remaining count last after
   pub is_status : status ≡ lines_status after.wire
 

@@ -1,10 +1,12 @@
 //! A controller over standard streams: it does what a host asks for, line by line.
 
+mod error;
 mod explaining;
 mod opening;
 mod serving;
 mod session;
 
 pub use crate::hba_wire::WireError;
+pub use error::ServeError;
 pub use opening::{RangeFault, drive_with_ranges};
 pub use serving::serve;

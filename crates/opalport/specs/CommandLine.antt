@@ -59,10 +59,12 @@ range_rule = record (new_rule (codes "range")) {
   action = Some Append;
 }
 
--- `hba`, with the options of a drive, ranges, and reasons or not
+-- `hba`, with the options of a drive, ranges, reasons or not, and where its waveforms are written
 abbrev pub hba_line : App
 hba_line =
-    with_rule (with_rule (drive_line (codes "hba")) range_rule) (flag_rule (codes "explain"))
+    with_rule
+    (with_rule (with_rule (drive_line (codes "hba")) range_rule) (flag_rule (codes "explain")))
+    (free_rule (codes "vcd"))
 
 -- `threads`, with the options that say how many clients make how many rounds
 abbrev pub threads_line : App
@@ -131,7 +133,7 @@ pub data Wanted : Type 0 where
   threads : Text → Text → Wanted
   tokens : Text → Naming → Wanted
   decode : Text → Text → Wanted
-  hba : Bool → DriveText → List Text → Wanted
+  hba : Bool → DriveText → List Text → Text → Wanted
   explore : DriveText → Text → Text → Text → Wanted
 
 -- what a request asks for
@@ -143,7 +145,7 @@ wanted_by (Threads load) = threads load.clients.now load.rounds.now
 wanted_by (Tokens tokens_asked) = tokens tokens_asked.hex.now tokens_asked.naming
 wanted_by (Decode texts) = decode texts.kind.now texts.hex.now
 wanted_by (Hba texts) =
-    hba texts.explains (drive_text texts.drive) (map (λ s. s.now) texts.ranges.items)
+    hba texts.explains (drive_text texts.drive) (map (λ s. s.now) texts.ranges.items) texts.vcd.now
 wanted_by (Explore texts) =
     explore (drive_text texts.drive) texts.steps.now texts.limit.now texts.find.now
 
@@ -189,7 +191,8 @@ asked_of (name, rows) =
     else if bytes_eq name (codes "decode")
     then Some (decode (text_of (codes "kind") rows) (text_of (codes "hex") rows))
     else if bytes_eq name (codes "hba")
-    then Some (hba (has_flag (codes "explain") rows) (drive_in rows) (range_texts rows))
+    then Some (hba (has_flag (codes "explain") rows) (drive_in rows) (range_texts rows)
+    (text_of (codes "vcd") rows))
     else if bytes_eq name (codes "draw") then Some (draw (drive_in rows))
     else if bytes_eq name (codes "explore")
     then Some (explore (drive_in rows) (text_of (codes "steps") rows) (text_of (codes "limit") rows)

@@ -128,7 +128,7 @@ Serves remaining contents (Some (tokens hex naming)) input status old new =
     TokensEnd hex naming status old new
 Serves remaining contents (Some (decode kind hex)) input status old new =
     DecodeEnds kind hex input status old new
-Serves remaining contents (Some (hba explains texts ranges)) input status old new =
+Serves remaining contents (Some (hba explains texts ranges vcd)) input status old new =
     HbaEnds remaining contents explains texts ranges input status old new
 Serves remaining contents (Some (explore texts steps limit find)) input status old new =
     ExploreEnds texts steps limit find input status old new

@@ -34,6 +34,8 @@ pub struct HbaTexts<'a> {
     pub drive: DriveTexts<'a>,
     pub ranges: Vec<&'a str>,
     pub explains: bool,
+    /// Where the waveforms are written; empty where none are wanted.
+    pub vcd: &'a str,
 }
 
 /// The options of an exploration, as they are written.
@@ -88,6 +90,9 @@ pub enum Request<'a> {
 
 /// What `--explain` does.
 const EXPLAINED: &str = "Tells each refusal with its reason, and what would lift it";
+
+/// What `--vcd` does.
+const WAVED: &str = "Writes the waveforms of the run there, while it runs";
 
 /// What `run --help` says of lines and statuses.
 const LINES: &str = "\
@@ -280,10 +285,9 @@ fn drive_command<'a>(
 fn run_command<'a>(alloc: Global) -> Result<Command<'a>, AllocError>
     ensures { IfOk result (λ command. app_of command ≡ run_line) }
 {
-    let vcd = "Writes the waveforms of the run there, while it runs";
     let c = drive_command(alloc, "run", "Runs a script from standard input", LINES)?;
     let c = with_flag(c, alloc, "explain", EXPLAINED)?;
-    with_free_option(c, alloc, "vcd", "FILE", vcd)
+    with_free_option(c, alloc, "vcd", "FILE", WAVED)
 }
 
 /// The command that runs clients and an engine at one port, with the options that say how many.
@@ -336,7 +340,8 @@ fn hba_command<'a>(alloc: Global) -> Result<Command<'a>, AllocError>
 {
     let about = "Serves a host over standard input and output, as an AHCI controller";
     let c = with_ranges(drive_command(alloc, "hba", about, CONTROLLER_LINES)?, alloc)?;
-    with_flag(c, alloc, "explain", EXPLAINED)
+    let c = with_flag(c, alloc, "explain", EXPLAINED)?;
+    with_free_option(c, alloc, "vcd", "FILE", WAVED)
 }
 
 /// The command that runs all short lists of the lines of a script, with the options that say on which drive, how long a
@@ -512,6 +517,8 @@ fn hba_texts<'a>(alloc: Global, matches: &ArgMatches<'a>) -> Result<HbaTexts<'a>
         ≡ range_texts (rows_of (found_of matches.now))) }
     ensures explains { IfOk result (λ texts. texts.explains
         ≡ has_flag (codes "explain") (rows_of (found_of matches.now))) }
+    ensures vcd { IfOk result (λ texts. texts.vcd.now
+        ≡ text_of (codes "vcd") (rows_of (found_of matches.now))) }
 {
     let ranges = Vec::from_slice(alloc, matches.get_strs("range").unwrap_or(&[]))?;
     let drive = drive_texts(matches);
@@ -519,6 +526,7 @@ fn hba_texts<'a>(alloc: Global, matches: &ArgMatches<'a>) -> Result<HbaTexts<'a>
         drive,
         ranges,
         explains: has_flag(matches, "explain"),
+        vcd: text_of(matches, "vcd"),
     })
 }
 

@@ -1,7 +1,7 @@
 //! Why the program comes to no status of its own.
 
 use decoded::DecodeError;
-use hba_program::hba_tool::WireError;
+use hba_program::hba_tool::ServeError;
 use port_threads::LoadError;
 use runs::recorded::RecordError;
 use thiserror::Error;
@@ -19,7 +19,7 @@ pub(crate) enum ProgramError {
     #[error(transparent)]
     Decode(#[from] DecodeError),
     #[error(transparent)]
-    Hba(#[from] WireError),
+    Hba(#[from] ServeError),
     #[error(transparent)]
     Threads(#[from] LoadError),
 }

@@ -282,7 +282,9 @@ pub fn ends<T: Threads + Wait + Sync + Files, R: Read + Drop, W: Write, E: Write
             let status = run_decode(alloc, texts.kind, texts.hex, input, output, faults)?;
             Ok(status)
         }
-        Ok(Some(Request::Hba(texts))) => { serve_controller(alloc, &texts, input, output, faults) },
+        Ok(Some(Request::Hba(texts))) => {
+            serve_controller(rt, alloc, &texts, input, output, faults)
+        }
         Ok(Some(Request::Explore(texts))) => Ok(explore(alloc, &texts, input, output, faults)?),
         Ok(None) => Ok(2),
         Err(error) => Ok(tell(&error, output, faults)?),

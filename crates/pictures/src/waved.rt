@@ -4,4 +4,4 @@ mod dump;
 mod wave;
 
 pub use dump::append_frame;
-pub use wave::Wave;
+pub use wave::{Wave, wave_at, wave_bits, wave_name, wave_value};

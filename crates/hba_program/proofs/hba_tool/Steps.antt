@@ -1,5 +1,5 @@
 -- Turns and lines, one behind the other.
-use Rattle.std.proofs.Common.{◌≡◌, ℕ, ◌+◌, ◌-◌, ◌^◌, ◌<◌, [], Bool, true, false, List, ◌++◌, Option, Some, None, refl, sym, ap, ◌∙◌, subst, add-one, true≢false}
+use Rattle.std.proofs.Common.{◌≡◌, ℕ, ◌+◌, ◌-◌, ◌^◌, ◌<◌, [], ◌∷◌, Bool, true, false, List, ◌++◌, Option, Some, None, refl, sym, ap, ◌∙◌, subst, add-one, true≢false}
 use Rattle.drive_scripts.specs.Kept.{KeptReasons}
 use Rattle.hba.specs.History.{State, Operation, denial_heard}
 use Rattle.hba.specs.Engine.{HearsTo, done_of}
@@ -14,7 +14,7 @@ use Rattle.hba_program.specs.Wires.{Accesses, left_of, SameWriter, SameMarks, Ta
 use Rattle.hba_program.specs.declared.hba_tool.session.Session.{Session}
 use Rattle.hba_program.specs.Replies.{reply_line}
 use Rattle.hba_program.specs.declared.hba_lines.reply.Reply.TheVariants as says
-use Rattle.hba_program.specs.Steps.{Stand, stand, Works, WorksIf, Rests, TellsUnless, TurnsOn, Turns, RunsOut, DoesLines, ReadsLine, DoesHere, DoesAll, HasNoMore, lines_status}
+use Rattle.hba_program.specs.Steps.{Stand, stand, Works, WorksIf, Rests, TellsUnless, TurnsOn, Turns, RunsOut, DoneLine, DoesLines, ReadsLine, DoesHere}
 
 -- the parts of a stand are all of it
 abbrev pub standing : {R W : Type 0} → State → Option KeptReasons → List DeniedCommand → Wire R W
@@ -55,17 +55,19 @@ turns_still remaining contents number n before middle after so_far same =
     subst (λ s. TurnsOn remaining contents number n before s) (sym same) so_far
 
 pub lines_none : {R W : Type 0} (remaining : R → Option (List ℕ)) (contents : W → Option (List ℕ))
-    (before : Stand R W) → DoesLines remaining contents 0 before before
+    (before : Stand R W) → DoesLines remaining contents 0 [] before before
 unfolding DoesLines
-lines_none remaining contents before = refl
+lines_none remaining contents before = (refl, refl)
 
 pub lines_more : {R W : Type 0} (remaining : R → Option (List ℕ)) (contents : W → Option (List ℕ))
-    (n : ℕ) (before middle reading after : Stand R W) → DoesLines remaining contents n before middle
+    (n : ℕ) (earlier : List DoneLine) (before middle reading after : Stand R W)
+    → DoesLines remaining contents n earlier before middle
     → ReadsLine remaining true middle reading → DoesHere remaining contents (n + 1) reading after
-    → DoesLines remaining contents (n + 1) before after
+    → DoesLines remaining contents (n + 1) (record { number = n + 1; hba = after.hba } ∷ earlier) before after
 unfolding DoesLines
-lines_more remaining contents n before middle reading after so_far reads does =
-    rw add-one (middle, reading, so_far, reads, does)
+lines_more remaining contents n earlier before middle reading after so_far reads does =
+    subst (λ k. DoesLines remaining contents k (record { number = n + 1; hba = after.hba } ∷ earlier) before after)
+    (sym (add-one n)) (middle, reading, earlier, so_far, reads, does, refl)
 
 -- a work with what is told of it, by the controller as the work left it
 pub works_of : {R W : Type 0} (remaining : R → Option (List ℕ)) (contents : W → Option (List ℕ))
@@ -147,16 +149,4 @@ reads_line remaining is_line b session old new is taken same unwritten marks = r
   same = same;
   unwritten = unwritten;
   marks = marks;
-}
-
-pub all_of : {R W : Type 0} (remaining : R → Option (List ℕ)) (contents : W → Option (List ℕ))
-    (count status : ℕ) (before last after : Stand R W) → DoesLines remaining contents count before last
-    → HasNoMore remaining count last after → status ≡ lines_status after.wire
-    → DoesAll remaining contents status before after
-all_of remaining contents count status before last after lines no_more is_status = record {
-  count = count;
-  last = last;
-  lines = lines;
-  no_more = no_more;
-  is_status = is_status;
 }

@@ -7,7 +7,7 @@ use Rattle.hba_program.specs.declared.hba_lines.request.Request.TheVariants as a
 use Rattle.hba_program.specs.declared.hba_lines.request.RequestFault.{RequestFault}
 use Rattle.hba_program.specs.Wires.{Accesses, SameWriter}
 use Rattle.hba_program.specs.declared.hba_wire.wire.Wire.{Wire}
-use Rattle.hba_program.specs.Steps.{Stand, WorksIf, TellsUnless, TurnsOn, Turns, RunsOut, AnswersHost, DoesLine, DoesLines, HasNoMore, DoesAll}
+use Rattle.hba_program.specs.Steps.{Stand, WorksIf, TellsUnless, TurnsOn, Turns, RunsOut, AnswersHost, DoesLine, DoneLine, DoesLines, HasNoMore, DoesAll}
 
 abbrev Same : {R W : Type 0} → Stand R W → Stand R W → Type 0
 Same before after = SameWriter before.wire after.wire
@@ -92,13 +92,14 @@ did_line remaining contents number (Ok request) before after d =
 did_line remaining contents number (Err fault) before after d = d.same
 
 did_lines : {R W : Type 0} (remaining : R → Option (List ℕ)) (contents : W → Option (List ℕ))
-    (n : ℕ) (before after : Stand R W) → DoesLines remaining contents n before after
+    (n : ℕ) (left : List DoneLine) (before after : Stand R W)
+    → DoesLines remaining contents n left before after
     → Same before after
 unfolding DoesLines
-did_lines remaining contents zero before after same = nothing before after same
-did_lines remaining contents (suc n) before after d =
-    did_line remaining contents _ _ d.1 after d.4
-    ∙ (d.3.same ∙ did_lines remaining contents n before d.0 d.2)
+did_lines remaining contents zero left before after d = nothing before after d.0
+did_lines remaining contents (suc n) left before after d =
+    did_line remaining contents _ _ d.1 after d.5
+    ∙ (d.4.same ∙ did_lines remaining contents n d.2 before d.0 d.3)
 
 ended : {R W : Type 0} (remaining : R → Option (List ℕ)) (count : ℕ) (last after : Stand R W)
     → HasNoMore remaining count last after → Same last after
@@ -110,4 +111,4 @@ pub did_all : {R W : Type 0} (remaining : R → Option (List ℕ)) (contents : W
     → Same before after
 did_all remaining contents status before after d =
     ended remaining d.count d.last after d.no_more
-    ∙ did_lines remaining contents d.count before d.last d.lines
+    ∙ did_lines remaining contents d.count d.left before d.last d.lines

@@ -45,7 +45,7 @@ pub enum Wave {
 pub(crate) const WAVES: u8 = 94;
 
 /// The signal of a place.
-pub(crate) fn wave_at(place: u8) -> Wave
+pub fn wave_at(place: u8) -> Wave
     ensures { result ≡ wave_at place }
 {
     match place {
@@ -106,14 +106,18 @@ fn wave_number(wave: Wave) -> Option<u8>
 }
 
 /// The name of a signal.
-pub(crate) fn wave_name(alloc: Global, wave: Wave) -> Result<Vec<u8>, AllocError>
+///
+/// # Errors
+///
+/// An allocation was refused.
+pub fn wave_name(alloc: Global, wave: Wave) -> Result<Vec<u8>, AllocError>
     ensures { IfOk result (λ name. name.items ≡ wave_name wave) }
 {
     numbered_name(alloc, wave_word(wave), wave_number(wave))
 }
 
 /// How many bits a signal has.
-pub(crate) fn wave_bits(wave: Wave) -> u8
+pub fn wave_bits(wave: Wave) -> u8
     ensures { result ≡ wave_bits wave }
 {
     match wave {
@@ -196,7 +200,7 @@ fn port_value(wave: Wave, registers: Option<Registers>) -> u64
 }
 
 /// The value of a signal in a sample.
-pub(crate) fn wave_value(wave: Wave, sample: &Sample) -> u64
+pub fn wave_value(wave: Wave, sample: &Sample) -> u64
     ensures { result ≡ wave_value wave sample.now }
 {
     match wave {

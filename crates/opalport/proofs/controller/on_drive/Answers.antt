@@ -12,5 +12,5 @@ returns-in-Ok-clause-ends g c =
       c.in-Ok.drive,
       subst (λ (config : Config). OpensAs config (option_rows (map (λ s. s.now) c.args.ranges.now)) opened.0) c.config.ensures opened.2,
       opened.1,
-      c.in_ok-serve-in-Ok.ensures.served,
+      c.in_ok-serve-in-Ok.ensures.served.serves,
     )

@@ -1,0 +1,4 @@
+pub mod Looks
+pub mod Signals
+pub mod Dumps
+pub mod Written
