@@ -32,24 +32,24 @@ slot_of steps.Recover = None
 slot_of (steps.Reset client kind) = None
 
 -- the command that was put in it, if one was
-abbrev pub put_in : (ℕ → Stage) → Option ℕ → Option Put
-put_in stages None = None
-put_in stages (Some tag) = put_at (stages tag)
+abbrev pub put_in_slot : (ℕ → Stage) → Option ℕ → Option Put
+put_in_slot stages None = None
+put_in_slot stages (Some tag) = put_at (stages tag)
 
 abbrev pub put_named : List Moment → Step → Option Put
-put_named before step = put_in (stage before) (slot_of step)
+put_named before step = put_in_slot (stage before) (slot_of step)
 
 abbrev pub command_put : Option Put → Option Command
 command_put put = option_map (λ put. put.command) put
 
 -- the act of a step comes from the line of the step, and from the client of that command
-abbrev pub source_at : ℕ → Option Put → Source
-source_at line put = record { line = line; client = client_of put }
+abbrev pub source_of_put : ℕ → Option Put → Source
+source_of_put line put = record { line = line; client = client_of put }
 
 abbrev pub sourced_step : Origin → List Step → Step → ℕ → Sourced
 sourced_step o before step line = record {
   act = act_of (trace o before) step;
-  source = source_at line (put_named (trace o before) step);
+  source = source_of_put line (put_named (trace o before) step);
 }
 
 -- the steps as reasons count them: each with its act, if it does one

@@ -13,7 +13,7 @@ ghost use Rattle.port_history.specs.Refusals.{refusal};
 ghost use Rattle.port_history.specs.Steps.{trace};
 ghost use Rattle.port_history.specs.declared.step.Step.{Step as StepOf};
 ghost use Rattle.reasons.specs.Onsets.{cause_in};
-ghost use Rattle.port_scripts.specs.PortActs.{LinedStep, bare_steps, put_in, slot_of};
+ghost use Rattle.port_scripts.specs.PortActs.{LinedStep, bare_steps, put_in_slot, slot_of};
 ghost use Rattle.port_scripts.specs.PortReasons.{Brings, BringsAccepted, IsAhead};
 
 use crate::port_reasons::slot_of;
@@ -106,8 +106,8 @@ fn brought_by(alloc: Global, port: &Port, step: &Step) -> Result<Brought, AllocE
 }
 
 /// The command of a slot, if there is one.
-fn put_in(port: &Port, slot: Option<Tag>) -> Option<Put>
-    ensures { result ≡ put_in (stage_at port.now.slots) slot }
+fn put_in_slot(port: &Port, slot: Option<Tag>) -> Option<Put>
+    ensures { result ≡ put_in_slot (stage_at port.now.slots) slot }
 {
     port.stage(slot?).put()
 }
@@ -118,7 +118,7 @@ pub(crate) fn ahead_of(alloc: Global, port: &Port, step: &Step) -> Result<Ahead,
         → PortAgrees port.now o (bare_steps past)
         → refusal (trace o (bare_steps past)) step.now ≡ None → IsAhead ahead o past step.now) }
 {
-    let put = put_in(port, slot_of(step));
+    let put = put_in_slot(port, slot_of(step));
     let place = port.audit().len();
     let brought = brought_by(alloc, port, step)?;
     Ok(Ahead {

@@ -11,7 +11,7 @@ ghost use Rattle.reasons.specs.Onsets.{Sourced};
 ghost use Rattle.reasons.specs.declared.explained.onset.Counted.TheVariants.{Steps};
 ghost use Rattle.drive_scripts.specs.Explanations.{denial_text};
 ghost use Rattle.drive_scripts.specs.Kept.{RecountsAll};
-ghost use Rattle.port_scripts.specs.PortActs.{LinedStep, bare_steps, command_put, source_at, steps_done};
+ghost use Rattle.port_scripts.specs.PortActs.{LinedStep, bare_steps, command_put, source_of_put, steps_done};
 ghost use Rattle.port_scripts.specs.PortReasons.{ExplainsStep, IsAhead, line_denial, reasons_by, step_refusal_text, steps_behind};
 
 use crate::ahead::Ahead;
@@ -32,8 +32,8 @@ fn command_of(put: Option<Put>) -> Option<Command>
 }
 
 /// Where the act of a step of this line comes from, which serves this command.
-fn source_at(line: u64, put: Option<Put>) -> Source
-    ensures { result ≡ source_at line put }
+fn source_of_put(line: u64, put: Option<Put>) -> Source
+    ensures { result ≡ source_of_put line put }
 {
     let client = match put {
         Some(put) => put.client,
@@ -92,7 +92,7 @@ fn note_step(port: &Port, explainer: &mut Explainer, ahead: &Ahead, line: u64)
         → RecountsAll explainer.old o (steps_done o past)
         → RecountsAll explainer.new o (steps_done o (steps_behind past line step None)) }
 {
-    let source = source_at(line, ahead.put);
+    let source = source_of_put(line, ahead.put);
     explainer.note(port.drive(), source, ahead.brought.cause);
 }
 
