@@ -1,2 +1,3 @@
+pub mod PortActs
 pub mod PortRuns
 pub mod PortTurns

@@ -1,20 +1,13 @@
 -- What a line of a port script leaves of its port.
 use Rattle.std.proofs.Common.{◌≡◌, ℕ, ◌+◌, ◌<◌, List, [], ◌∷◌, ◌++◌, length, reverse, Option, Some, None, Result, Ok, Err, OnOk, OnErr, IfOk, sym, ap, subst, ◌∙◌, append_assoc, inl, inr, arith, ltb-true}
-use Rattle.std.specs.Prelude.{slice_get, unwrap_or, option_map, IfSome}
+use Rattle.std.specs.Prelude.{slice_get, unwrap_or}
 use Rattle.std.proofs.lemmas.List.{append-nil, reverse-append, length-append}
 use Rattle.std.proofs.lemmas.Option.{slice_get_past, slice_get_read}
 use Rattle.std.proofs.Math.Seq.{get_or-append_seam}
 use Rattle.audit.specs.declared.reason.AuditLine.{AuditLine}
 use Rattle.audit.specs.declared.reason.Why.{Why}
 use Rattle.history.specs.Opening.{Origin}
-use Rattle.history.specs.History.{log}
-use Rattle.history.specs.Readers.{in_force}
-use Rattle.sp_cells.specs.Config.{Config}
-use Rattle.sp_cells.specs.Flat.{LookUp}
-use Rattle.transactions.specs.Sights.{look_up, committed_sight}
-use Rattle.history.proofs.KeptStoreReads.{store_read_law}
-use Rattle.port_scripts.specs.PortReasons.{acceptance_text, accepted_now, accepted_text, command_put, denied_in, line_denial, slot_of, step_refusal_text}
-use Rattle.trusted_cmds.specs.declared.command.Command.{Command}
+use Rattle.port_scripts.specs.PortReasons.{denied_in, line_denial}
 use Rattle.port.specs.Agreement.{PortAgrees}
 use Rattle.fis.specs.Tags.{slot_count}
 use Rattle.port.specs.Answers.{stage_at}
@@ -23,7 +16,7 @@ use Rattle.port_history.specs.Refusals.{refusal, IsRefusedBy}
 use Rattle.port_history.specs.Requests.{no_bytes}
 use Rattle.port_history.specs.Stages.{put_at}
 use Rattle.history.specs.Audit.{line_for}
-use Rattle.port_history.specs.Steps.{Effect, acts, moment, trace, stage, answer, audit, line_of, client_of}
+use Rattle.port_history.specs.Steps.{Effect, moment, trace, stage, answer, audit, line_of, client_of}
 use Rattle.port_history.specs.declared.error.PortError.{PortError}
 use Rattle.port_history.specs.declared.request.Answer.{Answer}
 use Rattle.port_history.specs.declared.stages.Put.{Put}
@@ -32,7 +25,7 @@ use Rattle.port_history.specs.declared.step.Step.{Step}
 use Rattle.port_history.specs.declared.step.Step.TheVariants as steps
 use Rattle.script_lines.specs.Texts.{Prints, printed, last_of, done_text, denial_lines}
 use Rattle.script_lines.specs.declared.report.Report.{Report}
-use Rattle.port_scripts.specs.PortEffects.{PortHas, PortRunsOn, PrintsError, PrintsStep, refused_lines, step_lines, stepped, step_effect, audit_lines, accepted_lines, taken_text, told_behind_step, reasons_by}
+use Rattle.port_scripts.specs.PortEffects.{PortHas, PortRunsOn, PrintsError, PrintsStep, refused_lines, step_lines, stepped, step_effect, audit_lines, accepted_lines, taken_text}
 use Rattle.drive_scripts.proofs.Printed.{prints-then}
 use Rattle.port_scripts.specs.declared.port_phase.PortPhase.{PortPhase}
 
@@ -213,7 +206,7 @@ take-so (Err error) old new o list client tag at put before after is puts refuse
     (steps.Take client tag) before after refused agrees kept tt prints runs
 
 -- what denied an accepted command, by the line of the audit log that came
-denied-so : (number : ℕ) (served : Option Put) (effect : Option Effect) (past : List AuditLine)
+pub denied-so : (number : ℕ) (served : Option Put) (effect : Option Effect) (past : List AuditLine)
     → line_denial
     (slice_get (reverse (line_of number served effect ++ past)) (length (reverse past)))
     ≡ denied_in effect
@@ -236,57 +229,3 @@ denied-so number served (Some e) past = by_reason e.event.denied
         (length (reverse past)) x
         (sym (length-append (reverse past) (x ∷ []))) (omega arith)
         (sym (get_or-append_seam (reverse past) x [] x)))
-
--- what is told of an accepted command is what the steps say
-accepted-so : (old new : PortState) (o : Origin) (list : List Step) (tag : ℕ) → tag < slot_count
-    → PortAgrees old o list → PortAgrees new o (steps.Accept tag ∷ list)
-    → accepted_now new (Some tag) (length old.audit) ≡ accepted_text o list tag
-accepted-so old new o list tag slot was now =
-    let later = steps.Accept tag ∷ list in
-    let ms = trace o list in
-    let m = moment o ms (steps.Accept tag) in
-    let asked = command_put (stage (trace o later) tag) in
-    ap (λ (s : Stage). acceptance_text new.drive.tper.store.config.profile
-    (look_up (committed_sight new.drive.tper.store)) (command_put s)
-    (line_denial (slice_get new.audit (length old.audit))) new.rule) (now.tags tag slot).stands
-    ∙ ap (λ (c : Config). acceptance_text c.profile (look_up (committed_sight new.drive.tper.store)) asked
-    (line_denial (slice_get new.audit (length old.audit))) new.rule) now.drive.tper.store.config
-    ∙ ap (λ (rows : LookUp). acceptance_text o.tables.config.profile rows asked
-    (line_denial (slice_get new.audit (length old.audit))) new.rule)
-    (store_read_law new.drive.tper.store o (log o (acts o later)) now.drive.tper.store).rows
-    ∙ ap (λ (line : Option AuditLine). acceptance_text o.tables.config.profile
-    (in_force o (log o (acts o later))) asked (line_denial line) new.rule)
-    (ap (λ (log : List AuditLine). slice_get log (length old.audit)) now.log
-    ∙ ap (λ (log : List AuditLine). slice_get
-    (reverse (line_of (1 + length ms) m.served m.effect ++ audit ms)) (length log)) was.log)
-    ∙ ap (λ (denied : Option Why). acceptance_text o.tables.config.profile
-    (in_force o (log o (acts o later))) asked denied new.rule)
-    (denied-so (1 + length ms) m.served m.effect (audit ms))
-    ∙ ap (acceptance_text o.tables.config.profile (in_force o (log o (acts o later))) asked
-    (denied_in m.effect)) now.rule
-
--- and so is what is told behind any step
-pub behind-so : (refused : Option PortError) (text : Option (List ℕ)) (old new : PortState) (o : Origin)
-    (list : List Step) (step : Step)
-    → text ≡ option_map (step_refusal_text (trace o list) step) refused
-    → PortAgrees old o list
-    → PortAgrees new o (stepped o list step refused).steps
-    → IfSome (slot_of step) (λ tag. tag < slot_count)
-    → told_behind_step text step new (length old.audit) ≡ reasons_by o list step refused
-behind-so (Some error) text old new o list step is was now slot =
-    ap (λ (t : Option (List ℕ)). told_behind_step t step new (length old.audit)) is
-behind-so None text old new o list (steps.Accept tag) is was now slot =
-    ap (λ (t : Option (List ℕ)). told_behind_step t (steps.Accept tag) new (length old.audit)) is
-    ∙ accepted-so old new o list tag slot was now
-behind-so None text old new o list (steps.Put client tag request) is was now slot =
-    ap (λ (t : Option (List ℕ)). told_behind_step t (steps.Put client tag request) new (length old.audit)) is
-behind-so None text old new o list (steps.Issue tag) is was now slot =
-    ap (λ (t : Option (List ℕ)). told_behind_step t (steps.Issue tag) new (length old.audit)) is
-behind-so None text old new o list (steps.Complete tag) is was now slot =
-    ap (λ (t : Option (List ℕ)). told_behind_step t (steps.Complete tag) new (length old.audit)) is
-behind-so None text old new o list (steps.Reset client kind) is was now slot =
-    ap (λ (t : Option (List ℕ)). told_behind_step t (steps.Reset client kind) new (length old.audit)) is
-behind-so None text old new o list (steps.Take client tag) is was now slot =
-    ap (λ (t : Option (List ℕ)). told_behind_step t (steps.Take client tag) new (length old.audit)) is
-behind-so None text old new o list steps.Recover is was now slot =
-    ap (λ (t : Option (List ℕ)). told_behind_step t steps.Recover new (length old.audit)) is

@@ -10,13 +10,21 @@ use Rattle.script_lines.specs.declared.fault.LineFault.{LineFault}
 use Rattle.script_lines.specs.declared.port_line.PortLine as told_of_port
 use Rattle.script_lines.specs.declared.port_line.PortLine.TheVariants as port_lines
 use Rattle.script_lines.specs.declared.report.Report.{Report}
-use Rattle.drive_scripts.specs.Turns.{StepsBy}
+use Rattle.port_history.specs.Refusals.{refusal}
+use Rattle.port_history.specs.Steps.{trace}
+use Rattle.port_history.specs.declared.error.PortError.{PortError}
+use Rattle.port_history.specs.declared.step.Step.TheVariants as steps
+use Rattle.drive_scripts.specs.Kept.{KeptReasons, RecountsAll}
+use Rattle.drive_scripts.specs.Turns.{AdvanceOf, StepsBy}
 use Rattle.drive_scripts.specs.declared.turn.Fault.TheVariants as faults
 use Rattle.drive_scripts.specs.declared.turn.Turn.{Turn}
 use Rattle.drive_scripts.specs.declared.turn.Turn.TheVariants as turns
 use Rattle.drive_scripts.proofs.Printed.{plainly, with-reasons}
-use Rattle.port_scripts.specs.PortCourses.{PortCourse, OnPort, ExplainedPort, DeskRunsOn, PortSteps, explained_port, on_port, port_course_step, port_start, port_step, port_step_by, step_said}
-use Rattle.port_scripts.specs.PortEffects.{PortEffect, PortRunsOn, PortHas, PortDoes, step_effect, step_in, step_reasons}
+use Rattle.port_scripts.specs.PortActs.{LinedStep, bare_steps, steps_done}
+use Rattle.port_scripts.specs.PortCourses.{PortCourse, OnPort, ExplainedPort, DeskRunsOn, KeepsCourse, KeepsPort, PortSteps, explained_port, on_port, port_course_step, port_start, port_step, port_step_by, step_said}
+use Rattle.port_scripts.specs.PortEffects.{PortEffect, PortRunsOn, PortHas, PortDoes, request_of, step_effect, step_in, stepped}
+use Rattle.port_scripts.specs.PortReasons.{ExplainsStep, reasons_by, step_reasons, steps_after, steps_behind}
+use Rattle.drive_scripts.specs.Acts.{kind_named}
 use Rattle.port_scripts.specs.declared.port_desk.PortDesk.{PortDesk}
 use Rattle.port_scripts.specs.declared.port_phase.PortPhase.{PortPhase}
 
@@ -114,22 +122,6 @@ pub port-steps : {E : Type 0} (r : Result Turn E) (text : List ℕ)
 port-steps r text old new before after does bad kept =
     port-by (port_line_of text) r text old new before after refl does bad kept
 
--- where a line asks for no step, no reasons are told
-pub no-reasons : {E : Type 0} (r : Result Turn E) (text : List ℕ) (old new : PortPhase) (before after : Report)
-    → step_said (port_line_of text) ≡ None
-    → IfOk r
-    (λ turn. (o : Origin) (list : List Step) → PortRunsOn old o list
-    → PortSteps turn (port_step o list before.last.items text (port_line_of text)) [] new o before after)
-    → IfOk r
-    (λ turn. (o : Origin) (list : List Step) → PortRunsOn old o list
-    → PortSteps turn (port_step o list before.last.items text (port_line_of text))
-    (step_reasons o list (step_said (port_line_of text))) new o before after)
-no-reasons (Ok turn) text old new before after none steps = λ o list runs.
-    subst
-    (λ step. PortSteps turn (port_step o list before.last.items text (port_line_of text))
-    (step_reasons o list step) new o before after) (sym none) (steps o list runs)
-no-reasons (Err e) text old new before after none steps = steps
-
 -- a line that asks for a step does it, and reasons are told behind what it printed
 step-told : (line : told_of_port.PortLine) (step : Step) (text : List ℕ) (turn : Turn) (old new : PortPhase)
     (o : Origin) (list : List Step) (reasons : List ℕ) (before mid after : Report)
@@ -180,33 +172,124 @@ step-runs (port_lines.Take client tag) step text turn old new o list before mid 
 step-runs port_lines.Expect step text turn old new o list before mid asks does = absurd (cc asks)
 step-runs (port_lines.Range row) step text turn old new o list before mid asks does = absurd (cc asks)
 
-pub told-behind : (read : Result told_of_port.PortLine LineFault) (step : Step) (text : List ℕ) (turn : Turn)
-    (old new : PortPhase) (o : Origin) (list : List Step) (reasons : List ℕ) (before mid after : Report)
-    → port_line_of text ≡ read → step_said read ≡ Some step
-    → after.pending.items ≡ mid.pending.items ++ reasons → after.last ≡ mid.last
+-- the steps that a step leaves behind it, and a line
+behind-is : (o : Origin) (past : List LinedStep) (number : ℕ) (step : Step) (refused : Option PortError)
+    → (stepped o (bare_steps past) step refused).steps ≡ bare_steps (steps_behind past number step refused)
+behind-is o past number step None = refl
+behind-is o past number step (Some error) = refl
+
+does-behind : (o : Origin) (past : List LinedStep) (number : ℕ) (step : Step)
+    → (step_effect o (bare_steps past) step).steps ≡ bare_steps (steps_after o past number (Some step))
+does-behind o past number step = behind-is o past number step (refusal (trace o (bare_steps past)) step)
+
+held-steps : (held : Bool) (list : List Step)
+    → IfOk {A = PortEffect} {E = ℕ} (if held then Ok (record { steps = list; lines = [] }) else Err 1)
+    (λ effect. effect.steps ≡ list)
+held-steps true list = refl
+held-steps false list = tt
+
+line-steps : (line : told_of_port.PortLine) (o : Origin) (past : List LinedStep) (number : ℕ) (last text : List ℕ)
+    → IfOk (port_step_by o (bare_steps past) last text line)
+    (λ effect. effect.steps ≡ bare_steps (steps_after o past number (step_in line)))
+line-steps (port_lines.Put client tag request) o past number last text =
+    does-behind o past number (steps.Put client tag (request_of request))
+line-steps (port_lines.Issue tag) o past number last text = does-behind o past number (steps.Issue tag)
+line-steps (port_lines.Accept tag) o past number last text = does-behind o past number (steps.Accept tag)
+line-steps (port_lines.Complete tag) o past number last text = does-behind o past number (steps.Complete tag)
+line-steps port_lines.Recover o past number last text = does-behind o past number steps.Recover
+line-steps (port_lines.Reset client kind) o past number last text =
+    does-behind o past number (steps.Reset client (kind_named kind))
+line-steps (port_lines.Take client tag) o past number last text = does-behind o past number (steps.Take client tag)
+line-steps port_lines.Expect o past number last text =
+    held-steps (bytes_eq last (expected_text text)) (bare_steps past)
+line-steps (port_lines.Range row) o past number last text = tt
+
+read-steps : (read : Result told_of_port.PortLine LineFault) (o : Origin) (past : List LinedStep) (number : ℕ)
+    (last text : List ℕ)
+    → IfOk (port_step o (bare_steps past) last text read)
+    (λ effect. effect.steps ≡ bare_steps (steps_after o past number (step_said read)))
+read-steps (Ok line) o past number last text = line-steps line o past number last text
+read-steps (Err fault) o past number last text = tt
+
+-- a turn with what is kept for reasons
+kept-steps : (turn : Turn) (result : Result PortEffect ℕ) (reasons : List ℕ) (new : PortPhase) (kept : KeptReasons)
+    (o : Origin) (next : List LinedStep) (before after : Report)
+    → PortSteps turn result reasons new o before after
+    → IfOk result (λ effect. effect.steps ≡ bare_steps next) → RecountsAll kept o (steps_done o next)
+    → StepsBy PortCourse (KeepsCourse new kept o) turn (explained_port next reasons result) before after
+kept-steps (turns.Goes aborted) (Ok effect) reasons new kept o next before after goes same recounts = record {
+  runs = record {
+    runs = subst (λ list. PortRunsOn new o list) same goes.runs;
+    recounts = recounts;
+  };
+  tells = goes.tells;
+}
+kept-steps (turns.Goes aborted) (Err status) reasons new kept o next before after is same recounts = absurd is
+kept-steps turns.ExpectationFailed (Ok effect) reasons new kept o next before after is same recounts = absurd is
+kept-steps turns.ExpectationFailed (Err status) reasons new kept o next before after is same recounts = is
+kept-steps (turns.Bad fault) (Ok effect) reasons new kept o next before after is same recounts = absurd is
+kept-steps (turns.Bad fault) (Err status) reasons new kept o next before after is same recounts = is
+
+-- where a line asks for no step, no reasons are told
+pub no-step : {E : Type 0} (r : Result Turn E) (text : List ℕ) (old new : PortPhase) (kept : KeptReasons) (number : ℕ)
+    (before after : Report) → step_said (port_line_of text) ≡ None
+    → IfOk r
+    (λ turn. (o : Origin) (list : List Step) → PortRunsOn old o list
+    → PortSteps turn (port_step o list before.last.items text (port_line_of text)) [] new o before after)
+    → IfOk r
+    (λ turn. (o : Origin) (past : List LinedStep) → KeepsPort old kept o past
+    → StepsBy PortCourse (KeepsCourse new kept o) turn
+    (port_course_step o (ExplainedPort past) before.last.items number text) before after)
+no-step (Ok turn) text old new kept number before after none steps = λ o past keeps.
+    let read = port_line_of text in
+    kept-steps turn (port_step o (bare_steps past) before.last.items text read) (step_reasons o past (step_said read)) new
+    kept o (steps_after o past number (step_said read)) before after
+    (subst
+    (λ step. PortSteps turn (port_step o (bare_steps past) before.last.items text read) (step_reasons o past step) new o
+    before after)
+    (sym none) (steps o (bare_steps past) keeps.runs))
+    (read-steps read o past number before.last.items text)
+    (subst (λ step. RecountsAll kept o (steps_done o (steps_after o past number step))) (sym none) keeps.recounts)
+no-step (Err e) text old new kept number before after none steps = steps
+
+-- a line that asks for a step, with what is told behind it
+pub does-step : (read : Result told_of_port.PortLine LineFault) (step : Step) (text : List ℕ) (turn : Turn)
+    (old new : PortPhase) (kept : KeptReasons) (o : Origin) (past : List LinedStep) (number : ℕ)
+    (before mid after : Report)
+    → port_line_of text ≡ read → step_said read ≡ Some step → after.last ≡ mid.last
     → ((line : told_of_port.PortLine) → port_line_of text ≡ Ok line
-    → PortDoes line text turn old new o list before mid)
-    → (PortRunsOn new o (step_effect o list step).steps → reasons ≡ step_reasons o list (Some step))
-    → PortSteps turn (port_step o list before.last.items text (port_line_of text))
-    (step_reasons o list (step_said (port_line_of text))) new o before after
-told-behind (Ok line) step text turn old new o list reasons before mid after reads asks more same does told =
-    subst
-    (λ read. PortSteps turn (port_step o list before.last.items text read)
-    (step_reasons o list (step_said read)) new o before after) (sym reads)
+    → PortDoes line text turn old new o (bare_steps past) before mid)
+    → (PortRunsOn new o (bare_steps (steps_behind past number step (refusal (trace o (bare_steps past)) step)))
+    → ExplainsStep o past step number (refusal (trace o (bare_steps past)) step) kept mid after)
+    → StepsBy PortCourse (KeepsCourse new kept o) turn
+    (port_course_step o (ExplainedPort past) before.last.items number text) before after
+does-step (Ok line) step text turn old new kept o past number before mid after reads asks same does explains =
+    let list = bare_steps past in
+    let last = before.last.items in
+    let refused = refusal (trace o list) step in
+    let told = explains
+    (subst (λ steps. PortRunsOn new o steps) (behind-is o past number step refused)
+    (step-runs line step text turn old new o list before mid asks (does line reads))) in
+    kept-steps turn (port_step o list last text (port_line_of text)) (step_reasons o past (step_said (port_line_of text)))
+    new kept o (steps_after o past number (step_said (port_line_of text))) before after
     (subst
-    (λ asked. PortSteps turn (port_step_by o list before.last.items text line)
-    (step_reasons o list asked) new o before after) (sym asks)
+    (λ read. PortSteps turn (port_step o list last text read) (step_reasons o past (step_said read)) new o before after)
+    (sym reads)
     (subst
-    (λ reasons. PortSteps turn (port_step_by o list before.last.items text line) reasons new o before after)
-    (told (step-runs line step text turn old new o list before mid asks (does line reads)))
-    (step-told line step text turn old new o list reasons before mid after asks more same (does line reads))))
-told-behind (Err fault) step text turn old new o list reasons before mid after reads asks more same does told =
+    (λ asked. PortSteps turn (port_step_by o list last text line) (step_reasons o past asked) new o before after)
+    (sym asks)
+    (step-told line step text turn old new o list (reasons_by o past step refused) before mid after asks told.pending same
+    (does line reads))))
+    (read-steps (port_line_of text) o past number last text)
+    (subst (λ read. RecountsAll kept o (steps_done o (steps_after o past number (step_said read)))) (sym reads)
+    (subst (λ asked. RecountsAll kept o (steps_done o (steps_after o past number asked))) (sym asks) told.recounts))
+does-step (Err fault) step text turn old new kept o past number before mid after reads asks same does explains =
     absurd (cc asks)
 
 -- a port that a script runs on, with reasons or without
 
 desk-plain : (turn : Turn) (result : Result PortEffect ℕ) (new : PortDesk) (o : Origin)
-    (before after : Report) → new.explains ≡ false → PortSteps turn result [] new.phase o before after
+    (before after : Report) → new.explainer ≡ None → PortSteps turn result [] new.phase o before after
     → StepsBy PortCourse (DeskRunsOn new o) turn (on_port result) before after
 desk-plain (turns.Goes aborted) (Ok effect) new o before after none has =
     record { runs = (has.runs, none); tells = has.tells }
@@ -216,60 +299,74 @@ desk-plain turns.ExpectationFailed (Err status) new o before after none is = is
 desk-plain (turns.Bad fault) (Ok effect) new o before after none is = absurd is
 desk-plain (turns.Bad fault) (Err status) new o before after none is = is
 
-desk-explained : (turn : Turn) (result : Result PortEffect ℕ) (new : PortDesk) (reasons : List ℕ) (o : Origin)
-    (before after : Report) → new.explains ≡ true → PortSteps turn result reasons new.phase o before after
-    → StepsBy PortCourse (DeskRunsOn new o) turn (explained_port reasons result) before after
-desk-explained (turns.Goes aborted) (Ok effect) new reasons o before after so has =
-    record { runs = (has.runs, so); tells = has.tells }
-desk-explained (turns.Goes aborted) (Err status) new reasons o before after so is = absurd is
-desk-explained turns.ExpectationFailed (Ok effect) new reasons o before after so is = absurd is
-desk-explained turns.ExpectationFailed (Err status) new reasons o before after so is = is
-desk-explained (turns.Bad fault) (Ok effect) new reasons o before after so is = absurd is
-desk-explained (turns.Bad fault) (Err status) new reasons o before after so is = is
+keeps-runs : (new : PortDesk) (kept : KeptReasons) (o : Origin) (course : PortCourse) → new.explainer ≡ Some kept
+    → KeepsCourse new.phase kept o course → DeskRunsOn new o course
+keeps-runs new kept o (OnPort list) is keeps = absurd keeps
+keeps-runs new kept o (ExplainedPort past) is keeps = (kept, is, keeps)
 
-pub plain-desk : {E : Type 0} (r : Result Turn E) (old new : PortDesk) (text : List ℕ)
-    (before after : Report) → old.explains ≡ false → new.explains ≡ false
+desk-kept : (turn : Turn) (result : Result (AdvanceOf PortCourse) ℕ) (new : PortDesk) (kept : KeptReasons) (o : Origin)
+    (before after : Report) → new.explainer ≡ Some kept
+    → StepsBy PortCourse (KeepsCourse new.phase kept o) turn result before after
+    → StepsBy PortCourse (DeskRunsOn new o) turn result before after
+desk-kept (turns.Goes aborted) (Ok made) new kept o before after is has =
+    record { runs = keeps-runs new kept o made.course is has.runs; tells = has.tells }
+desk-kept (turns.Goes aborted) (Err status) new kept o before after is never = absurd never
+desk-kept turns.ExpectationFailed (Ok made) new kept o before after is never = absurd never
+desk-kept turns.ExpectationFailed (Err status) new kept o before after is never = never
+desk-kept (turns.Bad fault) (Ok made) new kept o before after is never = absurd never
+desk-kept (turns.Bad fault) (Err status) new kept o before after is never = never
+
+pub plain-desk : {E : Type 0} (r : Result Turn E) (old new : PortDesk) (number : ℕ) (text : List ℕ)
+    (before after : Report) → old.explainer ≡ None → new.explainer ≡ None
     → IfOk r
     (λ turn. (o : Origin) (list : List Step) → PortRunsOn old.phase o list
     → PortSteps turn (port_step o list before.last.items text (port_line_of text)) [] new.phase o before after)
     → IfOk r
     (λ turn. (o : Origin) (course : PortCourse) → DeskRunsOn old o course
     → StepsBy PortCourse (DeskRunsOn new o) turn
-    (port_course_step o course before.last.items text) before after)
-plain-desk (Ok turn) old new text before after was none does = by-course
+    (port_course_step o course before.last.items number text) before after)
+plain-desk (Ok turn) old new number text before after was none does = by-course
   where
     by-course : (o : Origin) (course : PortCourse) → DeskRunsOn old o course
         → StepsBy PortCourse (DeskRunsOn new o) turn
-        (port_course_step o course before.last.items text) before after
+        (port_course_step o course before.last.items number text) before after
     by-course o (OnPort list) runs =
         desk-plain turn (port_step o list before.last.items text (port_line_of text)) new o before after none
         (does o list runs.0)
-    by-course o (ExplainedPort list) runs = absurd (cc (was, runs.1))
-plain-desk (Err e) old new text before after was none does = does
+    by-course o (ExplainedPort past) runs = absurd (cc (was, runs.1))
+plain-desk (Err e) old new number text before after was none does = does
 
-pub explained-desk : {E : Type 0} (r : Result Turn E) (old new : PortDesk) (text : List ℕ)
-    (before after : Report) → old.explains ≡ true → new.explains ≡ true
+pub kept-desk : {E : Type 0} (r : Result Turn E) (old new : PortDesk) (kept now : KeptReasons) (number : ℕ)
+    (text : List ℕ) (before after : Report) → old.explainer ≡ Some kept → new.explainer ≡ Some now
     → IfOk r
-    (λ turn. (o : Origin) (list : List Step) → PortRunsOn old.phase o list
-    → PortSteps turn (port_step o list before.last.items text (port_line_of text))
-    (step_reasons o list (step_said (port_line_of text))) new.phase o before after)
+    (λ turn. (o : Origin) (past : List LinedStep) → KeepsPort old.phase kept o past
+    → StepsBy PortCourse (KeepsCourse new.phase now o) turn
+    (port_course_step o (ExplainedPort past) before.last.items number text) before after)
     → IfOk r
     (λ turn. (o : Origin) (course : PortCourse) → DeskRunsOn old o course
     → StepsBy PortCourse (DeskRunsOn new o) turn
-    (port_course_step o course before.last.items text) before after)
-explained-desk (Ok turn) old new text before after was so does = by-course
+    (port_course_step o course before.last.items number text) before after)
+kept-desk (Ok turn) old new kept now number text before after was is does = by-course
   where
     by-course : (o : Origin) (course : PortCourse) → DeskRunsOn old o course
         → StepsBy PortCourse (DeskRunsOn new o) turn
-        (port_course_step o course before.last.items text) before after
-    by-course o (ExplainedPort list) runs =
-        desk-explained turn (port_step o list before.last.items text (port_line_of text)) new
-        (step_reasons o list (step_said (port_line_of text))) o before after so (does o list runs.0)
+        (port_course_step o course before.last.items number text) before after
     by-course o (OnPort list) runs = absurd (cc (was, runs.1))
-explained-desk (Err e) old new text before after was so does = does
+    by-course o (ExplainedPort past) runs =
+        let same : runs.0 ≡ kept = cc (runs.1, was) in
+        desk-kept turn (port_course_step o (ExplainedPort past) before.last.items number text) new now o before after is
+        (does o past (subst (λ k. KeepsPort old.phase k o past) same runs.2))
+kept-desk (Err e) old new kept now number text before after was is does = does
 
 -- where nothing was done
-pub desk-starts : (explains : Bool) (desk : PortDesk) (o : Origin) → desk.explains ≡ explains
+pub plain-starts : (explains : Bool) (desk : PortDesk) (o : Origin) → explains ≡ false → desk.explainer ≡ None
     → PortRunsOn desk.phase o [] → DeskRunsOn desk o (port_start explains)
-desk-starts true desk o so runs = (runs, so)
-desk-starts false desk o so runs = (runs, so)
+plain-starts explains desk o plain none runs =
+    subst (λ (b : Bool). DeskRunsOn desk o (port_start b)) (sym plain) (runs, none)
+
+pub kept-starts : (explains : Bool) (desk : PortDesk) (kept : KeptReasons) (o : Origin) → explains ≡ true
+    → desk.explainer ≡ Some kept → PortRunsOn desk.phase o [] → RecountsAll kept o []
+    → DeskRunsOn desk o (port_start explains)
+kept-starts explains desk kept o so is runs recounts =
+    subst (λ (b : Bool). DeskRunsOn desk o (port_start b)) (sym so)
+    (kept, is, record { runs = runs; recounts = recounts })

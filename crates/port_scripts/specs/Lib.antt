@@ -1,3 +1,4 @@
+pub mod PortActs
 pub mod PortReasons
 pub mod PortEffects
 pub mod PortCourses

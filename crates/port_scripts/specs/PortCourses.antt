@@ -1,5 +1,5 @@
 -- What a line makes of the course of a script on a port.
-use Rattle.std.specs.Prelude.{◌≡◌, ℕ, Bool, true, false, if◌then◌else◌, List, [], Option, None, Result, Ok, Err}
+use Rattle.std.specs.Prelude.{◌≡◌, ℕ, Bool, true, false, if◌then◌else◌, List, [], Option, None, Some, Result, Ok, Err}
 use Rattle.std.specs.Str.{bytes_eq}
 use Rattle.history.specs.Opening.{Origin}
 use Rattle.port_history.specs.declared.step.Step.{Step}
@@ -12,7 +12,10 @@ use Rattle.script_lines.specs.declared.report.Report.{Report}
 use Rattle.drive_scripts.specs.Turns.{AdvanceOf, PrintsWithReasons}
 use Rattle.drive_scripts.specs.declared.turn.Turn.{Turn}
 use Rattle.drive_scripts.specs.declared.turn.Turn.TheVariants as turns
-use Rattle.port_scripts.specs.PortEffects.{PortEffect, PortRunsOn, port_effect_of, step_in, step_reasons}
+use Rattle.drive_scripts.specs.Kept.{KeptReasons, RecountsAll}
+use Rattle.port_scripts.specs.PortActs.{LinedStep, bare_steps, steps_done}
+use Rattle.port_scripts.specs.PortEffects.{PortEffect, PortRunsOn, port_effect_of, step_in}
+use Rattle.port_scripts.specs.PortReasons.{step_reasons, steps_after}
 use Rattle.port_scripts.specs.declared.port_desk.PortDesk.{PortDesk}
 use Rattle.port_scripts.specs.declared.port_phase.PortPhase.{PortPhase}
 
@@ -32,11 +35,11 @@ abbrev pub port_step : Origin → List Step → List ℕ → List ℕ → Result
 port_step o list last text (Ok line) = port_step_by o list last text line
 port_step o list last text (Err fault) = Err 2
 
--- the steps that the port did so far, the newest first: in a run that tells no reasons, or in one
--- that does
+-- the steps that the port did so far, the newest first, and where a run tells reasons, with the lines
+-- that they come from
 pub data PortCourse : Type 0 where
   OnPort : (list : List Step) → PortCourse
-  ExplainedPort : (list : List Step) → PortCourse
+  ExplainedPort : (past : List LinedStep) → PortCourse
 
 -- nothing was done: whether reasons are told
 abbrev pub port_start : Bool → PortCourse
@@ -53,25 +56,39 @@ abbrev pub step_said : Result told.PortLine LineFault → Option Step
 step_said (Ok line) = step_in line
 step_said (Err fault) = None
 
--- with reasons
-abbrev pub explained_port : List ℕ → Result PortEffect ℕ → Result (AdvanceOf PortCourse) ℕ
-explained_port reasons (Ok effect) =
-    Ok (record { course = ExplainedPort effect.steps; lines = effect.lines; reasons = reasons })
-explained_port reasons (Err status) = Err status
-
--- what a line makes of the course, or the status that it ends the run with
-abbrev pub port_course_step : Origin → PortCourse → List ℕ → List ℕ
+-- with reasons: what is told of the step, and the steps behind it
+abbrev pub explained_port : List LinedStep → List ℕ → Result PortEffect ℕ
     → Result (AdvanceOf PortCourse) ℕ
-port_course_step o (OnPort list) last text =
+explained_port after reasons (Ok effect) =
+    Ok (record { course = ExplainedPort after; lines = effect.lines; reasons = reasons })
+explained_port after reasons (Err status) = Err status
+
+-- what the line of a number makes of the course, or the status that it ends the run with
+abbrev pub port_course_step : Origin → PortCourse → List ℕ → ℕ → List ℕ
+    → Result (AdvanceOf PortCourse) ℕ
+port_course_step o (OnPort list) last number text =
     on_port (port_step o list last text (port_line_of text))
-port_course_step o (ExplainedPort list) last text =
-    explained_port (step_reasons o list (step_said (port_line_of text)))
-    (port_step o list last text (port_line_of text))
+port_course_step o (ExplainedPort past) last number text =
+    explained_port (steps_after o past number (step_said (port_line_of text)))
+    (step_reasons o past (step_said (port_line_of text)))
+    (port_step o (bare_steps past) last text (port_line_of text))
+
+-- a port is as its origin and the steps leave it, and what is kept for reasons is what the steps say
+pub record KeepsPort (phase : PortPhase) (kept : KeptReasons) (o : Origin)
+    (past : List LinedStep) : Type 0 where
+  pub runs : PortRunsOn phase o (bare_steps past)
+  pub recounts : RecountsAll kept o (steps_done o past)
 
 -- a port is as its origin and the course leave it
 abbrev pub DeskRunsOn : PortDesk → Origin → PortCourse → Type 0
-DeskRunsOn desk o (OnPort list) = PortRunsOn desk.phase o list × (desk.explains ≡ false)
-DeskRunsOn desk o (ExplainedPort list) = PortRunsOn desk.phase o list × (desk.explains ≡ true)
+DeskRunsOn desk o (OnPort list) = PortRunsOn desk.phase o list × (desk.explainer ≡ None)
+DeskRunsOn desk o (ExplainedPort past) =
+    (kept : KeptReasons) × (desk.explainer ≡ Some kept) × KeepsPort desk.phase kept o past
+
+-- where reasons are told
+abbrev pub KeepsCourse : PortPhase → KeptReasons → Origin → PortCourse → Type 0
+KeepsCourse phase kept o (OnPort list) = ⊥
+KeepsCourse phase kept o (ExplainedPort past) = KeepsPort phase kept o past
 
 -- the port has done a step, with the reasons that are told
 pub record PortGoes (new : PortPhase) (o : Origin) (before after : Report)

@@ -22,7 +22,6 @@ use Rattle.port_history.specs.declared.step.Step.{Step}
 use Rattle.port_history.specs.declared.step.Step.TheVariants as steps
 use Rattle.port.specs.Agreement.{PortAgrees}
 use Rattle.port.specs.State.{PortState}
-use Rattle.port_scripts.specs.PortReasons.{step_refusal_text, accepted_now, accepted_text}
 use Rattle.script_lines.specs.Texts.{Prints, done_text, data_text, hex_text, command_failure_text, refused_text, reset_text, audit_text, denial_lines}
 use Rattle.script_lines.specs.Lines.{expected_text}
 use Rattle.script_lines.specs.declared.port_line.PortLine as told
@@ -141,23 +140,6 @@ step_in (lines.Reset client kind) = Some (steps.Reset client (kind_named kind))
 step_in (lines.Take client tag) = Some (steps.Take client tag)
 step_in lines.Expect = None
 step_in (lines.Range row) = None
-
--- What a run that tells reasons says behind a step: why it was refused, or the command that it accepted.
-abbrev pub reasons_by : Origin → List Step → Step → Option PortError → List ℕ
-reasons_by o list step (Some error) = step_refusal_text (trace o list) step error
-reasons_by o list (steps.Accept tag) None = accepted_text o list tag
-reasons_by o list step None = []
-
-abbrev pub step_reasons : Origin → List Step → Option Step → List ℕ
-step_reasons o list None = []
-step_reasons o list (Some step) = reasons_by o list step (refusal (trace o list) step)
-
--- The same by the text of a refusal, if the step was refused, and the port behind the step, whose audit log had so many lines
--- before it.
-abbrev pub told_behind_step : Option (List ℕ) → Step → PortState → ℕ → List ℕ
-told_behind_step (Some text) step port place = text
-told_behind_step None (steps.Accept tag) port place = accepted_now port (Some tag) place
-told_behind_step None step port place = []
 
 -- The port is as its origin and the steps leave it.
 abbrev pub PortRunsOn : PortPhase → Origin → List Step → Type 0

@@ -1,25 +1,31 @@
 -- What is told of a step of a port that is refused, or whose command is: the error in words and how far the command of the
--- slot has come, or what lifts the denial, or the rule, by what the command asked for. The texts are this program's own:
+-- slot has come; or of the command what is told of it on a drive, with the step in place of the act. The texts are this
+-- program's own:
 --   because the slot is not free: slot 3 is issued, put by client 2 in step 4
 --   because the port has not failed
-use Rattle.std.specs.Prelude.{ℕ, List, [], ◌∷◌, ◌++◌, Option, None, Some, option_map, slice_get, codes, decimal}
-use Rattle.basics.specs.declared.profile.Profile.{Profile}
-use Rattle.sp_cells.specs.Flat.{LookUp}
+use Rattle.std.specs.Prelude.{◌≡◌, ℕ, List, [], ◌∷◌, ◌++◌, length, slice_index, Option, None, Some, Ok, codes, decimal}
+use Rattle.fis.specs.Types.{h2d_type}
+use Rattle.slots.specs.Fetch.{fetched}
+use Rattle.slots.specs.declared.fetched.Fetched.{Fetched}
+use Rattle.history.specs.Answers.{payload_of}
+use Rattle.history.specs.History.{Accept}
+use Rattle.port.specs.Answers.{buffer_front}
+use Rattle.port.specs.State.{PortState}
 use Rattle.audit.specs.declared.reason.Why.{Why}
 use Rattle.audit.specs.declared.reason.AuditLine.{AuditLine}
 use Rattle.history.specs.Opening.{Origin}
-use Rattle.history.specs.History.{log}
-use Rattle.history.specs.Readers.{in_force}
-use Rattle.transactions.specs.Sights.{look_up, committed_sight}
-use Rattle.port.specs.Answers.{stage_at}
-use Rattle.port.specs.State.{PortState}
-use Rattle.port_history.specs.Steps.{Effect as ActEffect, Moment, moment, trace, acts, stage, accepted_rule}
+use Rattle.port_history.specs.Refusals.{refusal}
+use Rattle.port_history.specs.Steps.{Effect as ActEffect, Moment, moment, trace, act_of, acts, audit, stage, accepted_rule}
 use Rattle.port_history.specs.declared.step.Step.{Step}
 use Rattle.port_history.specs.declared.step.Step.TheVariants as steps
-use Rattle.audit.specs.declared.rules.rule.Rule.{Rule}
-use Rattle.trusted_cmds.specs.declared.command.Command.{Command}
-use Rattle.reasons.specs.Remedies.{remedy_text}
-use Rattle.reasons.specs.Rulings.{ruled_text}
+use Rattle.reasons.specs.Onsets.{cause_at, cause_of}
+use Rattle.reasons.specs.declared.explained.onset.Counted.TheVariants.{Steps}
+use Rattle.script_lines.specs.declared.report.Report.{Report}
+use Rattle.drive_scripts.specs.Explanations.{denial_text}
+use Rattle.drive_scripts.specs.Kept.{KeptReasons, RecountsAll}
+use Rattle.port_scripts.specs.PortActs.{LinedStep, bare_steps, slot_of, put_named, command_put, steps_done, act_payload}
+use Rattle.port_scripts.specs.declared.ahead.Ahead.{Ahead}
+use Rattle.port_scripts.specs.declared.ahead.Brought.{Brought}
 use Rattle.port_history.specs.Stages.{put_at}
 use Rattle.port_history.specs.declared.error.PortError.{PortError}
 use Rattle.port_history.specs.declared.error.PortError.TheVariants as errors
@@ -74,16 +80,6 @@ slot_refusal_text error tag stage =
 unfoldable pub port_refusal_text : PortError → List ℕ
 port_refusal_text error = codes "because " ++ error_words error ++ 10 ∷ []
 
--- the slot that a step names
-abbrev pub slot_of : Step → Option ℕ
-slot_of (steps.Put client tag request) = Some tag
-slot_of (steps.Issue tag) = Some tag
-slot_of (steps.Accept tag) = Some tag
-slot_of (steps.Complete tag) = Some tag
-slot_of (steps.Take client tag) = Some tag
-slot_of steps.Recover = None
-slot_of (steps.Reset client kind) = None
-
 -- why a step of a port that has come so far was refused
 abbrev pub refused_at : List Moment → PortError → Option ℕ → List ℕ
 refused_at ms error None = port_refusal_text error
@@ -92,40 +88,68 @@ refused_at ms error (Some tag) = slot_refusal_text error tag (stage ms tag)
 abbrev pub step_refusal_text : List Moment → Step → PortError → List ℕ
 step_refusal_text ms step error = refused_at ms error (slot_of step)
 
--- what is told of an accepted command: what lifts its denial, by the rows in force, or else the rule, by what it asked for
-unfoldable pub acceptance_text : Profile → LookUp → Option Command → Option Why → Option Rule
-    → List ℕ
-acceptance_text profile rows command None rule = ruled_text profile rows command rule
-acceptance_text profile rows command (Some why) rule = remedy_text profile rows why ++ 10 ∷ []
-
--- the command of a slot, if there is one
-abbrev pub command_put : Stage → Option Command
-command_put stage = option_map (λ put. put.command) (put_at stage)
-
-abbrev pub command_at : PortState → Option ℕ → Option Command
-command_at port None = None
-command_at port (Some tag) = command_put (stage_at port.slots tag)
-
--- the same of the command of a slot that a port accepted last, whose line of the audit log stands at a place, if it has one
+-- what denied a command, by its line of the audit log, if it has one
 abbrev pub line_denial : Option AuditLine → Option Why
 line_denial None = None
 line_denial (Some line) = Some line.why
 
-abbrev pub accepted_now : PortState → Option ℕ → ℕ → List ℕ
-accepted_now port slot place =
-    acceptance_text port.drive.tper.store.config.profile
-    (look_up (committed_sight port.drive.tper.store)) (command_at port slot)
-    (line_denial (slice_get port.audit place)) port.rule
-
--- and by the steps so far, of which this acceptance is the newest
+-- and by the effect of its acceptance
 abbrev pub denied_in : Option ActEffect → Option Why
 denied_in None = None
 denied_in (Some effect) = effect.event.denied
 
-abbrev pub accepted_text : Origin → List Step → ℕ → List ℕ
-accepted_text o list tag =
-    acceptance_text o.tables.config.profile
-    (in_force o (log o (acts o (steps.Accept tag ∷ list))))
-    (command_put (stage (trace o (steps.Accept tag ∷ list)) tag))
-    (denied_in (moment o (trace o list) (steps.Accept tag)).effect)
-    (accepted_rule (trace o (steps.Accept tag ∷ list)))
+-- what is told of the command of a slot that is accepted behind these steps, as on a drive: since which step what denied it
+-- has been in force, and what would lift it, or else the rule, by what it asked for and by its bytes
+abbrev pub accepted_text : Origin → List LinedStep → ℕ → List ℕ
+accepted_text o past tag =
+    denial_text Steps o (steps_done o past) (acts o (steps.Accept tag ∷ bare_steps past))
+    (command_put (put_named (trace o (bare_steps past)) (steps.Accept tag)))
+    (act_payload (act_of (trace o (bare_steps past)) (steps.Accept tag)))
+    (denied_in (moment o (trace o (bare_steps past)) (steps.Accept tag)).effect)
+    (accepted_rule (trace o (steps.Accept tag ∷ bare_steps past)))
+
+-- what a run that tells reasons says behind a step: why it was refused, or the command that it accepted
+abbrev pub reasons_by : Origin → List LinedStep → Step → Option PortError → List ℕ
+reasons_by o past step (Some error) = step_refusal_text (trace o (bare_steps past)) step error
+reasons_by o past (steps.Accept tag) None = accepted_text o past tag
+reasons_by o past step None = []
+
+abbrev pub step_reasons : Origin → List LinedStep → Option Step → List ℕ
+step_reasons o past None = []
+step_reasons o past (Some step) =
+    reasons_by o past step (refusal (trace o (bare_steps past)) step)
+
+-- the steps behind it: a step that is refused is none
+abbrev pub steps_behind : List LinedStep → ℕ → Step → Option PortError → List LinedStep
+steps_behind past line step (Some error) = past
+steps_behind past line step None = record { step = step; line = line } ∷ past
+
+abbrev pub steps_after : Origin → List LinedStep → ℕ → Option Step → List LinedStep
+steps_after o past line None = past
+steps_after o past line (Some step) =
+    steps_behind past line step (refusal (trace o (bare_steps past)) step)
+
+-- what a step brings to the drive: by what its act can bring something into force, and the bytes that come with it
+pub record Brings (brought : Brought) (o : Origin) (list : List Step) (step : Step) : Type 0 where
+  pub cause : brought.cause ≡ cause_at (act_of (trace o list) step)
+  pub payload : brought.payload.items ≡ act_payload (act_of (trace o list) step)
+
+-- the same by the command that a port fetches: its FIS, and as many bytes of the slot's buffer as it brings
+abbrev pub BringsAccepted : PortState → ℕ → Brought → Type 0
+BringsAccepted port tag brought =
+    (f : Fetched) → fetched port.memory tag ≡ Ok f → slice_index f.fis 0 ≡ h2d_type
+    → (brought.cause ≡ cause_of (Accept f.fis brought.payload.items))
+    × (brought.payload.items
+    ≡ buffer_front port.memory tag (payload_of port.drive.tper.store.config f.fis))
+
+-- what is known of a step before it is done: the command of its slot, how many lines the audit log has, and what it brings
+pub record IsAhead (ahead : Ahead) (o : Origin) (past : List LinedStep) (step : Step) : Type 0 where
+  pub put : ahead.put ≡ put_named (trace o (bare_steps past)) step
+  pub place : ahead.place ≡ length (audit (trace o (bare_steps past)))
+  pub brings : Brings ahead.brought o (bare_steps past) step
+
+-- behind a step that was refused or not its reasons are told, and what is kept for them goes on
+pub record ExplainsStep (o : Origin) (past : List LinedStep) (step : Step) (line : ℕ)
+    (refused : Option PortError) (kept : KeptReasons) (before after : Report) : Type 0 where
+  pub recounts : RecountsAll kept o (steps_done o (steps_behind past line step refused))
+  pub pending : after.pending.items ≡ before.pending.items ++ reasons_by o past step refused

@@ -1,17 +1,18 @@
-//! A port that a script runs on, and whether reasons are told.
+//! A port that a script runs on, and what is kept of it where reasons are told.
 
-ghost use Rattle.std.specs.Prelude.{◌≡◌, ◌<◌, List, IfOk, IfSome, option_map};
-ghost use Rattle.fis.specs.Tags.{slot_count};
+ghost use Rattle.std.specs.Prelude.{◌≡◌, List, IfOk, Some};
 ghost use Rattle.history.specs.Opening.{Origin};
-ghost use Rattle.port_history.specs.declared.step.Step.{Step as StepOf};
+ghost use Rattle.drive_scripts.specs.Turns.{StepsBy};
 ghost use Rattle.script_lines.specs.PortLines.{FitsPort, port_line_of};
-ghost use Rattle.port_scripts.specs.PortCourses.{PortSteps, port_step, step_said};
-ghost use Rattle.port_scripts.specs.PortEffects.{PortRunsOn, told_behind_step, step_in, step_reasons};
-ghost use Rattle.port_scripts.specs.PortReasons.{slot_of};
+ghost use Rattle.port_scripts.specs.PortActs.{LinedStep};
+ghost use Rattle.port_scripts.specs.PortCourses.{KeepsCourse, KeepsPort, PortCourse, ExplainedPort, port_course_step, step_said};
+ghost use Rattle.port_scripts.specs.PortEffects.{step_in};
 
+use crate::ahead::ahead_of;
+use crate::explaining::explain_step;
 use crate::port_phase::{PortPhase, request_of};
-use crate::port_reasons::{acceptance_of, refusal_of, slot_of};
-use drive_scripts::{Turn, kind_named};
+use crate::port_reasons::refusal_of;
+use drive_scripts::{Explainer, Turn, kind_named};
 use port::{Port, Step};
 use script_lines::{PortLine, Report};
 use std::alloc::{AllocError, Global};
@@ -48,27 +49,6 @@ fn step_in(alloc: Global, line: &PortLine<'_>) -> Result<Option<Step>, AllocErro
     Ok(Some(step))
 }
 
-/// What is told behind a step: why it was refused, or of the command that it accepted. `place` is how many lines the audit log
-/// had before it.
-fn reasons_behind(
-    alloc: Global,
-    port: &Port,
-    step: &Step,
-    refusal: Option<Vec<u8>>,
-    place: usize,
-) -> Result<Vec<u8>, AllocError>
-    ensures text { IfOk result (λ text. text.items
-        ≡ told_behind_step (option_map (λ t. t.items) refusal) step.now port.now place) }
-    ensures slot { IfOk result (λ text. IfSome (slot_of step.now) (λ tag. tag < slot_count)) }
-{
-    let slot = slot_of(step);
-    match (refusal, step) {
-        (Some(text), _) => Ok(text),
-        (None, Step::Accept { .. }) => acceptance_of(alloc, port, slot, place),
-        (None, _) => Ok(Vec::new(alloc)),
-    }
-}
-
 /// The step that a line of text asks for, if it asks for one.
 fn step_said(alloc: Global, text: &[u8]) -> Result<Option<Step>, AllocError>
     ensures { IfOk result (λ step. step ≡ step_said (port_line_of text.now)) }
@@ -79,34 +59,56 @@ fn step_said(alloc: Global, text: &[u8]) -> Result<Option<Step>, AllocError>
     }
 }
 
-/// Does what a line says, and tells why its step was refused, or of the command that it accepted.
-fn explained_turn(
+/// Does the step that a line asks for, and tells why it was refused, or of the command that it accepted.
+fn stepped_turn(
     phase: &mut PortPhase,
+    explainer: &mut Explainer,
+    step: &Step,
+    number: u64,
     text: &[u8],
     report: &mut Report,
 ) -> Result<Turn, AllocError>
-    ensures { IfOk result (λ turn. (o : Origin) (list : List StepOf) → PortRunsOn phase.old o list
-        → PortSteps turn (port_step o list report.old.last.items text.now (port_line_of text.now))
-        (step_reasons o list (step_said (port_line_of text.now)))
-        phase.new o report.old report.new) }
+    ensures { step_said (port_line_of text.now) ≡ Some step.now
+        → IfOk result (λ turn. (o : Origin) (past : List LinedStep)
+        → KeepsPort phase.old explainer.old o past
+        → StepsBy PortCourse (KeepsCourse phase.new explainer.new o) turn
+        (port_course_step o (ExplainedPort past) report.old.last.items number text.now)
+        report.old report.new) }
 {
     let alloc = phase.allocator();
-    let Some(step) = step_said(alloc, text)? else {
-        return phase.turn(text, report);
-    };
-    let refusal = refusal_of(alloc, phase.port(), &step)?;
-    let place = phase.port().audit().len();
+    let refusal = refusal_of(alloc, phase.port(), step)?;
+    let ahead = ahead_of(alloc, phase.port(), step)?;
     let turn = phase.turn(text, report)?;
-    let reasons = reasons_behind(alloc, phase.port(), &step, refusal, place)?;
-    report.pending.extend_from_slice(&reasons)?;
+    let port = phase.port();
+    explain_step(alloc, port, explainer, step, refusal, &ahead, number, report)?;
     Ok(turn)
 }
 
-/// A port that a script runs on, and whether reasons are told.
+/// Does what the line of a number says, and tells why its step was refused, or of the command that it accepted.
+fn explained_turn(
+    phase: &mut PortPhase,
+    explainer: &mut Explainer,
+    number: u64,
+    text: &[u8],
+    report: &mut Report,
+) -> Result<Turn, AllocError>
+    ensures { IfOk result (λ turn. (o : Origin) (past : List LinedStep)
+        → KeepsPort phase.old explainer.old o past
+        → StepsBy PortCourse (KeepsCourse phase.new explainer.new o) turn
+        (port_course_step o (ExplainedPort past) report.old.last.items number text.now)
+        report.old report.new) }
+{
+    match step_said(phase.allocator(), text)? {
+        Some(step) => stepped_turn(phase, explainer, &step, number, text, report),
+        None => phase.turn(text, report),
+    }
+}
+
+/// A port that a script runs on. Where reasons are told, something keeps what they need.
 #[derive(Drop)]
 pub struct PortDesk {
     phase: PortPhase,
-    explains: bool,
+    explainer: Option<Explainer>,
 }
 
 impl PortDesk {
@@ -116,11 +118,18 @@ impl PortDesk {
     ghost use Rattle.port_scripts.specs.PortCourses.{PortCourse, DeskRunsOn, port_course_step, port_start};
     ghost use Rattle.port_scripts.specs.PortEffects.{PortRunsOn};
 
-    /// A port on which nothing was done.
+    /// A port on which nothing was done, and whether reasons are told.
     pub fn new(phase: PortPhase, explains: bool) -> PortDesk
         ensures { (o : Origin) → PortRunsOn phase o [] → DeskRunsOn result o (port_start explains) }
     {
-        PortDesk { phase, explains }
+        if explains {
+            let explainer = Some(Explainer::new(phase.allocator(), phase.port().drive()));
+            return PortDesk { phase, explainer };
+        }
+        PortDesk {
+            phase,
+            explainer: None,
+        }
     }
 
     /// The port.
@@ -130,18 +139,23 @@ impl PortDesk {
         self.phase.port()
     }
 
-    /// Does what a line says.
+    /// Does what the line of a number says.
     #[inline(always)]
-    pub fn turn(&mut self, text: &[u8], report: &mut Report) -> Result<Turn, AllocError>
+    pub fn turn(
+        &mut self,
+        number: u64,
+        text: &[u8],
+        report: &mut Report,
+    ) -> Result<Turn, AllocError>
         ensures { IfOk result (λ turn. (o : Origin) (course : PortCourse)
             → DeskRunsOn self.old o course
             → StepsBy PortCourse (DeskRunsOn self.new o) turn
-            (port_course_step o course report.old.last.items text.now)
+            (port_course_step o course report.old.last.items number text.now)
             report.old report.new) }
     {
-        if self.explains {
-            return explained_turn(&mut self.phase, text, report);
+        match &mut self.explainer {
+            Some(explainer) => explained_turn(&mut self.phase, explainer, number, text, report),
+            None => self.phase.turn(text, report),
         }
-        self.phase.turn(text, report)
     }
 }

@@ -1,4 +1,4 @@
-//! What is told of a step of a port that is refused, or whose command is.
+//! What is told of a step of a port that is refused.
 
 ghost use Rattle.std.specs.Prelude.{◌≡◌, ◌<◌, ◌++◌, Some, List, IfSome, IfOk, OnOk, option_map};
 ghost use Rattle.fis.specs.Tags.{slot_count};
@@ -7,19 +7,14 @@ ghost use Rattle.port.specs.Agreement.{PortAgrees};
 ghost use Rattle.port_history.specs.Refusals.{refusal};
 ghost use Rattle.port_history.specs.Steps.{trace};
 ghost use Rattle.port_history.specs.declared.step.Step.{Step as StepOf};
-ghost use Rattle.port_scripts.specs.PortReasons.{slot_of, step_refusal_text, accepted_now, error_words, stage_words, labelled_number, put_text, slot_text, slot_refusal_text, port_refusal_text, acceptance_text, command_at};
+ghost use Rattle.port_scripts.specs.PortActs.{slot_of};
+ghost use Rattle.port_scripts.specs.PortReasons.{step_refusal_text, error_words, stage_words, labelled_number, put_text, slot_text, slot_refusal_text, port_refusal_text};
 
-use audit::Why;
-use audit::rules::Rule;
 use basics::append_decimal;
 use fis::{SLOT_COUNT, Tag};
 use port::Port;
 use port_history::{PortError, Put, Stage, Step};
-use reasons::remedies::remedy_bytes;
-use reasons::rulings::ruling_of;
-use sp_cells::Rows;
 use std::alloc::{AllocError, Global};
-use trusted_cmds::Command;
 
 /// An error of a port in words.
 fn words_of(error: PortError) -> &'static [u8]
@@ -131,32 +126,6 @@ pub fn port_refusal(alloc: Global, error: PortError) -> Result<Vec<u8>, AllocErr
     Ok(text)
 }
 
-/// What is told of an accepted command, in lines with their line feeds: what lifts its denial, by the rows in force, or
-/// else the rule that refused it, by what it asked for; nothing where neither did.
-///
-/// # Errors
-///
-/// Want of memory.
-#[tactic(auto, unfolding(crate::specs::PortReasons::acceptance_text))]
-pub fn acceptance<R: Rows>(
-    alloc: Global,
-    rows: &R,
-    command: Option<Command>,
-    denied: Option<&Why>,
-    rule: Option<Rule>,
-) -> Result<Vec<u8>, AllocError>
-    ensures { IfOk result (λ text. text.items
-        ≡ acceptance_text (R.profile_of rows.now) (R.look_up rows.now) command
-        (option_map (λ why. why.now) denied.entry) rule) }
-{
-    let Some(why) = denied else {
-        return ruling_of(alloc, rows, command, rule);
-    };
-    let mut text = remedy_bytes(alloc, rows, why)?;
-    text.extend_from_slice(b"\n")?;
-    Ok(text)
-}
-
 /// A tag, which numbers a slot.
 fn numbered(tag: Tag) -> Option<Tag>
     ensures value { result ≡ Some tag }
@@ -199,34 +168,4 @@ pub fn refusal_of(alloc: Global, port: &Port, step: &Step) -> Result<Option<Vec<
         None => port_refusal(alloc, error)?,
     };
     Ok(Some(text))
-}
-
-/// The command of a slot, if there is one.
-fn command_at(port: &Port, slot: Option<Tag>) -> Option<Command>
-    ensures { result ≡ command_at port.now slot }
-{
-    let put = port.stage(slot?).put()?;
-    Some(put.command)
-}
-
-/// What is told of the command of a slot that a port accepted last, in lines with their line feeds. `place` is where its
-/// line of the audit log stands, if it has one: how many lines the log had before.
-///
-/// # Errors
-///
-/// Want of memory.
-pub fn acceptance_of(
-    alloc: Global,
-    port: &Port,
-    slot: Option<Tag>,
-    place: usize,
-) -> Result<Vec<u8>, AllocError>
-    ensures { IfOk result (λ text. text.items ≡ accepted_now port.now slot place) }
-{
-    let rows = port.drive().in_force();
-    let command = command_at(port, slot);
-    match port.audit().get(place) {
-        Some(line) => acceptance(alloc, &rows, command, Some(&line.why), port.rule()),
-        None => acceptance(alloc, &rows, command, None, port.rule()),
-    }
 }

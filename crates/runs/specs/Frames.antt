@@ -7,6 +7,7 @@ use Rattle.pictures.specs.declared.samples.frame.Frame.{Frame}
 use Rattle.reasons.specs.Onsets.{bare_acts}
 use Rattle.tool.specs.Courses.{Course, Advance, DriveScript, NamedScript, PortScript}
 use Rattle.drive_scripts.specs.DriveCourses.{OnDrive, ExplainedDrive}
+use Rattle.port_scripts.specs.PortActs.{bare_steps}
 use Rattle.port_scripts.specs.PortCourses.{OnPort, ExplainedPort}
 use Rattle.tool.specs.Outcomes.{printed_by}
 use Rattle.tool.specs.Scripts.{ScriptLine}
@@ -18,7 +19,7 @@ sample_on o (DriveScript (ExplainedDrive past)) = drive_sample o (bare_acts past
 sample_on o (NamedScript known (OnDrive acts)) = drive_sample o acts
 sample_on o (NamedScript known (ExplainedDrive past)) = drive_sample o (bare_acts past)
 sample_on o (PortScript (OnPort list)) = port_sample o list
-sample_on o (PortScript (ExplainedPort list)) = port_sample o list
+sample_on o (PortScript (ExplainedPort past)) = port_sample o (bare_steps past)
 
 -- the frame of a line of this number and text, where this line was printed last
 abbrev pub frame_by : Origin → Course → ℕ → List ℕ → List ℕ → Frame

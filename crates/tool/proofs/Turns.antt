@@ -64,7 +64,7 @@ pub port-turns : {E : Type 0} (r : Result Turn E) (old new : PortDesk) (number :
     (before after : Report)
     → IfOk r
     (λ turn. (o : Origin) (course : PortCourse) → DeskRunsOn old o course
-    → StepsBy PortCourse (DeskRunsOn new o) turn (port_course_step o course before.last.items text) before after)
+    → StepsBy PortCourse (DeskRunsOn new o) turn (port_course_step o course before.last.items number text) before after)
     → IfOk r
     (λ turn. (o : Origin) (course : Course) → PhaseRunsOn (phases.Port old) o course
     → Steps turn
@@ -75,7 +75,7 @@ port-turns (Ok turn) old new number text before after does = by-course
         → Steps turn
         (course_step o course before.last.items (record { number = number; text = text })) (phases.Port new) o before after
     by-course o (PortScript course) runs =
-        steps-in PortScript (DeskRunsOn new o) turn (port_course_step o course before.last.items text)
+        steps-in PortScript (DeskRunsOn new o) turn (port_course_step o course before.last.items number text)
         (phases.Port new) o before after (λ course now. now) (does o course runs)
     by-course o (DriveScript course) runs = absurd runs
     by-course o (NamedScript known course) runs = absurd runs

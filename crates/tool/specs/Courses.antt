@@ -61,7 +61,7 @@ course_step o (DriveScript course) last line =
 course_step o (NamedScript known course) last line =
     named_step o known course last line.number (plain_line known line.text)
 course_step o (PortScript course) last line =
-    advance_in PortScript (port_course_step o course last line.text)
+    advance_in PortScript (port_course_step o course last line.number line.text)
 
 -- a drive is as its origin and the course leave it, and the clients know these sessions
 abbrev pub NamedRunsOn : NamedPhase → Origin → Known → DriveCourse → Type 0

@@ -36,7 +36,7 @@ impl Phase {
         match self {
             Phase::Drive(drive) => drive.turn(number, text, report),
             Phase::Named(named) => named.turn(number, text, report),
-            Phase::Port(port) => port.turn(text, report),
+            Phase::Port(port) => port.turn(number, text, report),
         }
     }
 

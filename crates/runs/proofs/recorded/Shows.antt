@@ -4,7 +4,12 @@ use Rattle.history.specs.History.{Act}
 use Rattle.history.specs.Opening.{Origin}
 use Rattle.drive.specs.State.{Agrees}
 use Rattle.reasons.specs.Onsets.{bare_acts}
-use Rattle.pictures.specs.Samples.{Sample, drive_sample}
+use Rattle.pictures.specs.Samples.{Sample, drive_sample, port_sample}
+use Rattle.port.specs.Agreement.{PortAgrees}
+use Rattle.port_history.specs.declared.step.Step.{Step}
+use Rattle.port_scripts.specs.PortActs.{bare_steps}
+use Rattle.port_scripts.specs.PortCourses.{OnPort, ExplainedPort}
+use Rattle.port_scripts.specs.declared.port_desk.PortDesk.{PortDesk}
 use Rattle.drive_scripts.specs.DriveCourses.{OnDrive, ExplainedDrive}
 use Rattle.drive_scripts.specs.declared.drive_phase.DrivePhase.{DrivePhase}
 use Rattle.tool.specs.Courses.{Course, DriveScript, NamedScript, PortScript, PhaseRunsOn}
@@ -27,3 +32,11 @@ named-samples named o (NamedScript known (OnDrive acts)) sample shows runs = sho
 named-samples named o (NamedScript known (ExplainedDrive past)) sample shows runs = shows o (bare_acts past) runs.0.0.0
 named-samples named o (DriveScript course) sample shows runs = absurd runs
 named-samples named o (PortScript course) sample shows runs = absurd runs
+
+pub port-samples : (desk : PortDesk) (o : Origin) (course : Course) (sample : Sample)
+    → ((o : Origin) (list : List Step) → PortAgrees desk.phase.port o list → sample ≡ port_sample o list)
+    → PhaseRunsOn (phases.Port desk) o course → sample ≡ sample_on o course
+port-samples desk o (PortScript (OnPort list)) sample shows runs = shows o list runs.0
+port-samples desk o (PortScript (ExplainedPort past)) sample shows runs = shows o (bare_steps past) runs.2.runs
+port-samples desk o (DriveScript course) sample shows runs = absurd runs
+port-samples desk o (NamedScript known course) sample shows runs = absurd runs

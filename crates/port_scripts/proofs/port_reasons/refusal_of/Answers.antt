@@ -5,7 +5,8 @@ use Rattle.port_history.specs.Refusals.{refusal}
 use Rattle.port_history.specs.Steps.{trace}
 use Rattle.port_history.specs.declared.error.PortError.{PortError}
 use Rattle.port_history.specs.declared.stages.Stage.{Stage}
-use Rattle.port_scripts.specs.PortReasons.{slot_of, slot_refusal_text, refused_at, step_refusal_text}
+use Rattle.port_scripts.specs.PortActs.{slot_of}
+use Rattle.port_scripts.specs.PortReasons.{slot_refusal_text, refused_at, step_refusal_text}
 use Rattle.port_scripts.proofs.port_reasons.refusal_of.Goals as goal
 use Rattle.port_scripts.proofs.port_reasons.refusal_of.Goals.{in-Some-slot_of+in_ok-text-in-Some-slot_of, in-None+in_ok-text-in-None}
 
