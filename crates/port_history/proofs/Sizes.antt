@@ -217,7 +217,7 @@ data-fits f (Receive protocol com_id blocks dma) whole =
     omega (
       arith,
       length-told (is_protocol_list (Receive protocol com_id blocks dma))
-      (asks_certificates f.config.profile (Receive protocol com_id blocks dma)) f com_id (512 * blocks),
+          (asks_certificates f.config.profile (Receive protocol com_id blocks dma)) f com_id (512 * blocks),
     )
 data-fits f Identify whole = omega (arith, length-known f.config.profile f.config f.settings)
 data-fits f (ReadLog10 dma) whole = omega (arith, length-log f.failure)

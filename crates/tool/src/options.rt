@@ -96,10 +96,7 @@ fn write_limit<W: fmt::Write>(
 }
 
 /// Writes which limit the bytes of DataStore are beyond.
-fn write_store_limit<W: fmt::Write>(
-    f: &mut fmt::Formatter<W>,
-    datastore: u64,
-) -> fmt::Result {
+fn write_store_limit<W: fmt::Write>(f: &mut fmt::Formatter<W>, datastore: u64) -> fmt::Result {
     if datastore > MOST_DATASTORE_BYTES {
         return write!(
             f,
@@ -120,9 +117,7 @@ impl fmt::Display for OptionsFault {
             OptionsFault::Shadow => f.write_str("--shadow is no decimal number of 64 bits"),
             OptionsFault::Msid(fault) => write!(f, "--msid is not written in hex: {fault}"),
             OptionsFault::Psid(fault) => write!(f, "--psid is not written in hex: {fault}"),
-            OptionsFault::Profile => {
-                f.write_str("--profile is none of base, field and opal")
-            }
+            OptionsFault::Profile => { f.write_str("--profile is none of base, field and opal") }
             OptionsFault::NamesOfBase => {
                 f.write_str("--serial, --model and --psid want --profile field or opal")
             }
