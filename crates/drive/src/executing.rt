@@ -148,7 +148,8 @@ impl Drive {
                     return Ok((self.protocols(room)?, Objection::none()));
                 }
                 if self.asks_certificates(command) {
-                    return Ok((self.certificates(room)?, Objection::none()));
+                    let told = self.certificates(room)?;
+                    return Ok((told, Objection::none()));
                 }
                 let bytes = self.received(sp_specific, room)?;
                 Ok((bytes, Objection::none()))

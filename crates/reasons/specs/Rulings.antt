@@ -4,8 +4,7 @@
 --   because Level 0 discovery, ComID 0001h, is received and takes no send
 --   because a response carries at most 65480 bytes of tokens
 --   because security protocol 00h is its list alone: a receive, SP Specific 0000h, one block or more
---   because security protocol 00h is its list and the certificates: a receive, SP Specific 0000h or 0001h, one block or
---   more
+--   because security protocol 00h is a receive, SP Specific 0000h or 0001h, one block or more
 --   because TPerInfo ProgrammaticResetEnable = 0
 --   lifted by: Set of TPerInfo ProgrammaticResetEnable = 1 by SID (ACE_TPerInfo_Set_ProgrammaticResetEnable)
 use Rattle.std.specs.Prelude.{◌≡◌, ℕ, ◌==◌, Bool, true, false, ◌&&◌, List, [], ◌∷◌, ◌++◌, Option, None, Some, codes, decimal, Result, Ok, Err, if◌then◌else◌}
@@ -88,8 +87,7 @@ list_words =
 
 abbrev pub certificate_words : List ℕ
 certificate_words =
-    codes "security protocol 00h is its list and the certificates: a receive, SP Specific 0000h"
-    ++ codes " or 0001h, one block or more"
+    codes "security protocol 00h is a receive, SP Specific 0000h or 0001h, one block or more"
 
 abbrev pub discovery_words : List ℕ
 discovery_words = codes "Level 0 discovery, ComID 0001h, is received and takes no send"

@@ -196,7 +196,7 @@ fn append_matter<R: Rows>(
         ),
         Matter::OtherThanCertificates => append_because(
             text,
-            b"security protocol 00h is its list and the certificates: a receive, SP Specific 0000h or 0001h, one block or more",
+            b"security protocol 00h is a receive, SP Specific 0000h or 0001h, one block or more",
         ),
         Matter::SendToDiscovery => append_because(
             text,

@@ -86,7 +86,7 @@ other_than_list : ruled_text Field rows (Some (Receive 0 1 1 true)) (Some rules.
 other_than_list = refl
 
 -- under Opal there are the certificates too
-other_than_certificates : ruled_text Opal rows (Some (Receive 0 2 1 true)) (Some rules.Protocol) ≡ codes "because security protocol 00h is its list and the certificates: a receive, SP Specific 0000h or 0001h, one block or more\n"
+other_than_certificates : ruled_text Opal rows (Some (Receive 0 2 1 true)) (Some rules.Protocol) ≡ codes "because security protocol 00h is a receive, SP Specific 0000h or 0001h, one block or more\n"
 other_than_certificates = refl
 
 no_list : ruled_text Base rows (Some (Receive 0 1 1 true)) (Some rules.Protocol) ≡ codes "because not security protocol 01h with one block at least\n"

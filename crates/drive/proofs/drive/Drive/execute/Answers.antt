@@ -1,5 +1,7 @@
 use Rattle.std.proofs.Common.{◌≡◌, ◌*◌, ◌∙◌, ap, sym, subst, refl, ℕ, ◌∷◌}
 use Rattle.shadow_mbr.specs.Stored.{sector_size}
+use Rattle.device_data.specs.Protocols.{certificate_data}
+use Rattle.device_data.specs.ErrorLog.{sized}
 use Rattle.trusted_cmds.specs.declared.command.Command.{Command}
 use Rattle.trusted_cmds.specs.declared.command.Command.TheVariants.{Identify, ReadLog}
 use Rattle.history.specs.Decisions.{asks_certificates}
@@ -70,3 +72,11 @@ pub returns-then-asks_certificates-clause-kept : goal.returns-then-asks_certific
 returns-then-asks_certificates-clause-kept c = λ o acts k.
     certificates-keeps c.args.self.now o (log o acts) c.args.payload.now c.args.command.now _
     (sym c.asks_certificates.ensures ∙ c.if-asks_certificates.true) k
+
+pub returns-then-asks_certificates-clause-data : goal.returns-then-asks_certificates-clause-data
+returns-then-asks_certificates-clause-data c = λ o acts k.
+    subst (λ (x : Command). c.in_ok-told-in-Receive.told.items ≡ data_of (facts o (log o acts)) x) (sym c.in-Receive.is)
+    (c.in_ok-told-in-Receive.ensures ∙ ap (λ (n : ℕ). sized (sector_size * n) certificate_data) c.from-room.ensures
+    ∙ certificates-data c.args.self.now o (log o acts) c.in-Receive.protocol c.in-Receive.sp_specific c.in-Receive.blocks c.in-Receive.dma
+    (ap is_protocol_list (sym c.in-Receive.is) ∙ sym c.is_protocol_list.ensures ∙ c.if-is_protocol_list.false)
+    (ap (asks_certificates c.args.self.now.tper.store.config.profile) (sym c.in-Receive.is) ∙ sym c.asks_certificates.ensures ∙ c.if-asks_certificates.true) k)
