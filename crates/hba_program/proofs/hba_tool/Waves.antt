@@ -115,7 +115,7 @@ goes_on remaining contents dumped o list lines number middle reading after old b
         moments ++ moment_after o number agreed.0 ∷ [],
         (moments, agreed.0, shown, agreed.1, refl),
         then_on_if dumped (moment_after o 0 list ∷ moments) (moment_after o number agreed.0 ∷ []) old before new goes
-            (shows agreed.0 agreed.1)
+            (shows agreed.0 agreed.1),
       ),
     )
 
