@@ -34,11 +34,14 @@ fn all_of_last_block(fises: &ArrayVec<Fis, 2>, blocks: usize) -> ArrayVec<Fis, 2
     told
 }
 
-/// The FISes of a command, with the data that came with it or that it gives.
-pub(crate) fn by_blocks(fises: &ArrayVec<Fis, 2>, brought: &[u8], given: &[u8]) -> ArrayVec<Fis, 2>
+/// The FISes of a command, with the data that came with it or that it gives. A D2H Register FIS alone stays as it is.
+pub(crate) fn by_blocks(fises: ArrayVec<Fis, 2>, brought: &[u8], given: &[u8]) -> ArrayVec<Fis, 2>
     ensures { result.items
         ≡ map (of_last_block ((length brought.now + length given.now) / block_size))
-        fises.now.items }
+        fises.items }
 {
-    all_of_last_block(fises, (brought.len() + given.len()) / BLOCK)
+    if let [Fis::D2h(_)] = fises.as_slice() {
+        return fises;
+    }
+    all_of_last_block(&fises, (brought.len() + given.len()) / BLOCK)
 }

@@ -246,7 +246,7 @@ impl Hba {
         let payload = room.as_slice();
         self.take(fis, &header, payload, &mut answer)?;
         let bytes = answer.bytes.as_slice();
-        let told = by_blocks(&answer.fises(), payload, bytes);
+        let told = by_blocks(answer.fises(), payload, bytes);
         let fises = told.as_slice();
         let delivered = deliver(memory, place, brought, fises, bytes);
         self.note_fetch(tag);

@@ -1,5 +1,5 @@
 -- What comes of accesses so far, and of those that are to come.
-use Rattle.std.proofs.Common.{◌≡◌, ◌<◌, ℕ, ◌+◌, ◌-◌, ◌%◌, ◌^◌, ◌||◌, min, zero, suc, Bool, true, false, List, [], ◌∷◌, ◌++◌, length, take, drop, Option, Some, None, Ok, Err, refl, sym, ap, arith, append_assoc, subst, get_or, ◌≤◌, add-one, drop-cons, length-drop, length-append, length-take-le, slice_range, ◌∙◌}
+use Rattle.std.proofs.Common.{◌≡◌, ◌<◌, ℕ, ◌+◌, ◌-◌, ◌%◌, ◌^◌, ◌||◌, min, zero, suc, Bool, true, false, List, [], ◌∷◌, ◌++◌, length, take, drop, Option, Some, None, Ok, Err, refl, sym, ap, arith, append_assoc, subst, get_or, ◌≤◌, add-one, drop-cons, length-drop, length-append, length-take-le, slice_range, ◌∙◌, true≢false, rules}
 use Rattle.std.proofs.lemmas.Grind.{common_steps}
 use Rattle.std.proofs.lemmas.List.{append-nil, take_all, take_at}
 use Rattle.std.specs.Prelude.{◌==◌, Result, OnErr}
@@ -183,6 +183,25 @@ gathers_all does start now first all len into at n left moved h is_none whole al
       subst (λ (xs : List ℕ). Gathers first all len t.0 (Ok xs)) (take_all moved.len into whole) t.2,
       moved_so t.0 len moved.len moved.is_processed moved refl all_moved t.3,
     )
+
+-- No bytes are wanted, so nothing is read.
+no_bytes : (at n : ℕ) → Gathers at n 0 [] (Ok [])
+no_bytes at zero = (refl, refl)
+no_bytes at (suc n) = (refl, refl)
+
+is_nothing : (bytes : List ℕ) → (length bytes == 0) ≡ true → bytes ≡ []
+is_nothing [] is = refl
+is_nothing (byte ∷ bytes) is =
+    let some : (suc (length bytes) == 0) ≡ false = search rules in
+    absurd (true≢false (sym is ∙ some))
+
+pub gathers_nothing : {M : Type 0} (does : M → Access → M → Type 0) (start : M) (at n : ℕ) (into : List ℕ)
+    (moved : Moved) → (length into == 0) ≡ true → moved ≡ moved_by [] 0
+    → (talk : List Access) × Accessed does start talk start × Gathers at n (length into) talk (Ok into)
+    × (moved ≡ moved_by talk (length into))
+gathers_nothing does start at n into moved none is =
+    subst (λ (xs : List ℕ). (talk : List Access) × Accessed does start talk start × Gathers at n (length xs) talk (Ok xs)
+    × (moved ≡ moved_by talk (length xs))) (sym (is_nothing into none)) ([], refl, no_bytes at n, is)
 
 -- A block is filled behind what was filled before.
 pub block_behind : (into block rest : List ℕ) (done size end : ℕ) → done ≤ length into

@@ -126,13 +126,31 @@ impl Moved {
     }
 }
 
-/// Fills `into` with the first bytes of the blocks that so many descriptors from an address on name. A descriptor is read
+/// Fills `room` with the first bytes of the blocks that so many descriptors from an address on name. A descriptor is read
 /// where bytes are wanted of its block alone.
 ///
 /// # Errors
 ///
-/// Where memory failed. What stands in `into` then is not said.
+/// Where memory failed. What stands in `room` then is not said.
 pub fn gather<M: HostMemory>(
+    memory: &mut M,
+    at: u64,
+    entries: u16,
+    room: &mut [u8],
+) -> Result<Moved, Miss>
+    requires { at < 2 ^ 33 }
+    ensures { (talk : List Access) × Accessed M.does memory.old talk memory.new
+        × Gathers at entries (length room.old) talk (brought_as (λ done. room.new) result)
+        × IfOk result (λ moved. moved ≡ moved_by talk (length room.old)) }
+{
+    if room.is_empty() {
+        return Ok(Moved::none());
+    }
+    gather_blocks(memory, at, entries, room)
+}
+
+/// The same of any number of bytes, descriptor by descriptor.
+fn gather_blocks<M: HostMemory>(
     memory: &mut M,
     at: u64,
     entries: u16,

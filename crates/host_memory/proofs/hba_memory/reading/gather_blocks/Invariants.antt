@@ -1,6 +1,6 @@
 use Rattle.std.proofs.Common.{◌+◌, ◌*◌, ◌-◌, ◌≤◌, length, take}
 use Rattle.host_memory.proofs.hba_memory.Talks.{GathersOn}
-use Rattle.host_memory.proofs.hba_memory.reading.gather.Given as goal
+use Rattle.host_memory.proofs.hba_memory.reading.gather_blocks.Given as goal
 
 abbrev pub invariant-loop-k : goal.invariant-loop-k
 invariant-loop-k g l = record {
