@@ -1,6 +1,6 @@
 -- What the opal profile adds to the field profile: how long a send may be (SIIS, invalid transfer length), and the certificates
 -- (SPC-4, SECURITY PROTOCOL IN).
-use Rattle.std.proofs.Common.{◌≡◌, ℕ, true, List, [], ◌∷◌, ◌++◌, replicate, refl}
+use Rattle.std.proofs.Common.{◌≡◌, ℕ, ◌*◌, true, List, [], ◌∷◌, ◌++◌, replicate, refl}
 use Rattle.basics.specs.declared.profile.Profile.TheVariants.{Field, Opal}
 use Rattle.sp_cells.specs.Names.{admin_sp}
 use Rattle.sp_cells.specs.Authorities.{authorities_of_locking}
@@ -17,7 +17,6 @@ use Rattle.transactions.specs.Resets.{is_range}
 use Rattle.methods.specs.Listed.{listed_among}
 use Rattle.methods.specs.Settings.{cells_for}
 use Rattle.history.specs.Decisions.{any_below}
-use Rattle.device_data.specs.ErrorLog.{sized}
 use Rattle.trusted_cmds.specs.declared.command.Command.TheVariants.{Receive}
 use Rattle.audit.specs.declared.rules.rule.Rule.TheVariants.{LongTransfer, NoFrame, Protocol, ResponseWaits}
 use Rattle.history.specs.Opening.{Origin, factory_origin}
@@ -51,4 +50,5 @@ row_certificates = (refl, refl, refl, refl, refl)
 
 -- There is none: two reserved bytes, and a length of 0.
 row_no_certificate : data_of (facts opal []) (Receive 0 1 1 true) ≡ replicate 512 0
+unfolding opal
 row_no_certificate = refl
