@@ -40,14 +40,14 @@ static void moves(uint32_t command, uint64_t lba, uint32_t count, const uint8_t 
     must(taken.code == OPAL_DONE && taken.number == ++number && taken.ending == ending, "another answer");
 }
 
-/* The bytes that the process has in memory. */
+/* The bytes that the process has in memory, but for those of files, which come and go by what else the machine does. */
 static size_t resident(void)
 {
-    unsigned long all = 0, here = 0;
+    unsigned long all = 0, here = 0, of_files = 0;
     FILE *file = fopen("/proc/self/statm", "r");
-    must(file != NULL && fscanf(file, "%lu %lu", &all, &here) == 2, "no /proc/self/statm");
+    must(file != NULL && fscanf(file, "%lu %lu %lu", &all, &here, &of_files) == 3, "no /proc/self/statm");
     fclose(file);
-    return here * (size_t)sysconf(_SC_PAGESIZE);
+    return (here - of_files) * (size_t)sysconf(_SC_PAGESIZE);
 }
 
 int main(void)

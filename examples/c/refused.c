@@ -76,6 +76,23 @@ static void settings(void)
     must(opal_drive_new(&drive, &config) == OPAL_DONE && opal_free(&drive) == OPAL_DONE, "the largest names do not fit");
 }
 
+static void opal_sizes(void)
+{
+    opal_config config = OPAL_CONFIG_INIT_OPAL;
+    must(opal_drive_new(&drive, &config) == OPAL_DONE, "no opal drive");
+    opal_about about = opal_about_handle(&drive);
+    must(about.profile == OPAL_OPAL && about.sectors == 524288 && about.shadow == 262144, "the opal drive is told otherwise");
+    must(opal_free(&drive) == OPAL_DONE, "the opal drive is not freed");
+    config.shadow = 262143;
+    ask("an opal drive with a shadow of 262,143 sectors", &config);
+    config.shadow = 262144;
+    config.has_datastore = true;
+    config.datastore = 10485759;
+    ask("an opal drive with a DataStore of 10,485,759 bytes", &config);
+    config.datastore = 16777216;
+    must(opal_drive_new(&drive, &config) == OPAL_DONE && opal_free(&drive) == OPAL_DONE, "the largest DataStore does not fit");
+}
+
 static void rows(void)
 {
     opal_range two[] = { { 100, 10, 1, 1, 1, 1, 1 }, { 200, 10, 1, 0, 0, 0, 0 } };
@@ -126,6 +143,7 @@ int main(void)
     must(told.number >= strlen(OPAL_VERSION_TEXT) && memcmp(text, OPAL_VERSION_TEXT, strlen(OPAL_VERSION_TEXT)) == 0,
          "another text of the version");
     settings();
+    opal_sizes();
     rows();
     pointers();
     opal_about about = opal_about_handle(&drive);
