@@ -167,25 +167,25 @@ other-data : (f : Facts) (protocol com_id blocks : ℕ) (dma certificates : Bool
     → is_protocol_list (Receive protocol com_id blocks dma) ≡ false
     → asks_certificates f.config.profile (Receive protocol com_id blocks dma) ≡ certificates
     → certificates_or certificates f com_id (sector_size * blocks) ≡ data_of f (Receive protocol com_id blocks dma)
-other-data f protocol com_id blocks dma certificates no is =
+other-data f protocol com_id blocks dma certificates other is =
     ap (λ (b : Bool). certificates_or b f com_id (sector_size * blocks)) (sym is)
-    ∙ sym (ap (λ (b : Bool). if b then sized (sector_size * blocks) protocol_list else certificates_or (asks_certificates f.config.profile (Receive protocol com_id blocks dma)) f com_id (sector_size * blocks)) no)
+    ∙ sym (ap (λ (b : Bool). if b then sized (sector_size * blocks) protocol_list else certificates_or (asks_certificates f.config.profile (Receive protocol com_id blocks dma)) f com_id (sector_size * blocks)) other)
 
 pub certificates-data : (d : DriveState) (o : Origin) (past : List Event) (protocol com_id blocks : ℕ) (dma : Bool)
     → is_protocol_list (Receive protocol com_id blocks dma) ≡ false
     → asks_certificates d.tper.store.config.profile (Receive protocol com_id blocks dma) ≡ true → KeepsDrive d o past
     → sized (sector_size * blocks) certificate_data ≡ data_of (facts o past) (Receive protocol com_id blocks dma)
-certificates-data d o past protocol com_id blocks dma no is k =
-    other-data (kept_facts d (facts o past)) protocol com_id blocks dma true no is
+certificates-data d o past protocol com_id blocks dma other is k =
+    other-data (kept_facts d (facts o past)) protocol com_id blocks dma true other is
     ∙ ap (λ (f : Facts). data_of f (Receive protocol com_id blocks dma)) (seen-is d o past k)
 
 pub received-data : (d : DriveState) (o : Origin) (past : List Event) (protocol com_id blocks : ℕ) (dma : Bool)
     → is_protocol_list (Receive protocol com_id blocks dma) ≡ false
     → asks_certificates d.tper.store.config.profile (Receive protocol com_id blocks dma) ≡ false → KeepsDrive d o past
     → receive_data (facts o past) com_id (sector_size * blocks) ≡ data_of (facts o past) (Receive protocol com_id blocks dma)
-received-data d o past protocol com_id blocks dma no is k =
+received-data d o past protocol com_id blocks dma other is k =
     ap (λ (f : Facts). receive_data f com_id (sector_size * blocks)) (sym (seen-is d o past k))
-    ∙ other-data (kept_facts d (facts o past)) protocol com_id blocks dma false no is
+    ∙ other-data (kept_facts d (facts o past)) protocol com_id blocks dma false other is
     ∙ ap (λ (f : Facts). data_of f (Receive protocol com_id blocks dma)) (seen-is d o past k)
 
 pub discovery-data : (d : DriveState) (o : Origin) (past : List Event) (com_id room : ℕ) → com_id ≡ 1 → KeepsDrive d o past
