@@ -29,7 +29,7 @@ use Rattle.sp_cells.specs.Numbers.{key_number}
 use Rattle.methods.specs.Erasures.{erased_by_key, erased_by_revert_sp, is_wholly_locked}
 use Rattle.methods.specs.Judgement.{RevertsSp, erases, Judgement, Refuses, Gives, Activates, Reverts, Standing, bytes_between, rows_given, gives, listing, makes, unless_open, does_ask, does, judged, asked, Denies}
 use Rattle.history.specs.Decisions.{is_session_com_id, is_trusted}
-use Rattle.history.specs.Tcg.{answers, tcg}
+use Rattle.history.specs.Tcg.{answers, tcg, takes_blocks}
 use Rattle.methods.specs.Calls.{outcome_of}
 use Rattle.history.specs.Facts.{Facts, standing}
 use Rattle.history.specs.History.{Act, Accept as AcceptFis, event_by}
@@ -103,10 +103,10 @@ looked o before u put com_id blocks lu k mended was sends of_sessions = record {
     unqueued : is_queued_command put.command ≡ false
     unqueued = ap is_queued_command sends
 
-trusted_now : (blocks : ℕ) (s w : Bool) → 0 < blocks → s ≡ true → w ≡ false
-    → (is_trusted 1 blocks && s && not w) ≡ true
-trusted_now blocks s w some is free =
-    let e : nat_lt 0 blocks ≡ true = grind (arith, nat_tests) in rw (e, is, free) refl
+trusted_now : (blocks : ℕ) (s t w : Bool) → 0 < blocks → s ≡ true → t ≡ true → w ≡ false
+    → (is_trusted 1 blocks && s && (t && not w)) ≡ true
+trusted_now blocks s t w some is fits free =
+    let e : nat_lt 0 blocks ≡ true = grind (arith, nat_tests) in rw (e, is, fits, free) refl
 
 none_waits : {A : Type 0} (x : Option A) → x ≡ None → is_some x ≡ false
 none_waits x e = ap is_some e
@@ -125,8 +125,8 @@ called o before step session object method args h c = record {
     blocks = c.blocks;
     dma = true;
     looked = looked o before c.tag c.put c.com_id c.blocks low (kept tcg tcg_for_ports o before at.2) mended c.stands c.sends c.of_sessions;
-    taken = trusted_now c.blocks (is_session_com_id c.com_id) (is_some ((facts_after tcg o before).waiting c.com_id))
-        c.some c.of_sessions (none_waits _ c.free);
+    taken = trusted_now c.blocks (is_session_com_id c.com_id) (takes_blocks o.tables.config.profile c.blocks) (is_some ((facts_after tcg o before).waiting c.com_id))
+        c.some c.of_sessions c.fits (none_waits _ c.free);
     framed = ap frame_in data_of ∙ c.framed;
     addressed = eq-eqb c.frame.com_id c.com_id c.addressed;
   };

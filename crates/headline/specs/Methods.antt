@@ -29,7 +29,7 @@ use Rattle.methods.specs.Effects.{sp_of_row}
 use Rattle.sessions.specs.Deeds.{Setting, Sets, Outcome, says, Attempt, SessionDeed, Unchanged, Tried, Changed, Activated, Reverted, Erased, Begun}
 use Rattle.methods.specs.Judgement.{Judgement, Standing, asked, does, to_set}
 use Rattle.history.specs.Decisions.{is_session_com_id}
-use Rattle.history.specs.Tcg.{answers, is_manager, tcg, item_in}
+use Rattle.history.specs.Tcg.{answers, is_manager, takes_blocks, tcg, item_in}
 use Rattle.methods.specs.Calls.{outcome_of}
 use Rattle.history.specs.Facts.{Facts, session_named, standing}
 use Rattle.history.specs.Opening.{Origin}
@@ -41,8 +41,9 @@ use Rattle.port_history.specs.Refusals.{IsLawful}
 use Rattle.port_history.specs.Steps.{trace, stage, payload}
 use Rattle.headline.specs.Steps.{facts_after, event_after}
 
--- A step at which the drive takes a call that a client sent: by security protocol 01h, on a ComID of
--- sessions on which no response waits, in a frame that names a live session.
+-- A step at which the drive takes a call that a client sent: by security protocol 01h, in no more
+-- blocks than its profile takes, on a ComID of sessions on which no response waits, in a frame that
+-- names a live session.
 pub record IsCallStep (o : Origin) (before : List Step) (step : Step) (session : Begun)
     (object method : List ℕ) (args : Trees) : Type 0 where
   pub tag : ℕ
@@ -53,6 +54,7 @@ pub record IsCallStep (o : Origin) (before : List Step) (step : Step) (session :
   pub blocks : ℕ
   pub sends : put.command ≡ Send 1 com_id blocks true
   pub some : 0 < blocks
+  pub fits : takes_blocks o.tables.config.profile blocks ≡ true
   pub of_sessions : is_session_com_id com_id ≡ true
   pub free : (facts_after tcg o before).waiting com_id ≡ None
   pub frame : Frame
