@@ -110,7 +110,7 @@ pub record IsUntaken (types : List (Column × ColumnType)) (values : List (ℕ �
   pub taken : first_untaken types before ≡ None
   pub fault : cell_for types (column, value) ≡ None
 
-abbrev pub ColumnLaw : Type 0
-ColumnLaw =
+abbrev pub UntakenColumnLaw : Type 0
+UntakenColumnLaw =
     (types : List (Column × ColumnType)) (values : List (ℕ × Tree)) (column : ℕ)
     → first_untaken types values ≡ Some column → IsUntaken types values column

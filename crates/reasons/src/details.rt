@@ -5,7 +5,7 @@ ghost use Rattle.tcg_tokens.specs.Tree.{tree};
 ghost use Rattle.reasons.specs.Lives.{life_on};
 ghost use Rattle.reasons.specs.Asked.{seen_with, MetLaw, LongLaw};
 ghost use Rattle.reasons.specs.Sent.{call_seen, sp_wanted};
-ghost use Rattle.reasons.specs.Untaken.{ColumnLaw, UntakenLaw};
+ghost use Rattle.reasons.specs.Untaken.{UntakenColumnLaw, UntakenLaw};
 ghost use Rattle.reasons.specs.Details.{session_words, act_line, started_words, freed_line, busy_since, busy_if, busy_text, ended_words, ended_since, elsewhere_line, ended_if, lost_on, lost_text, writes_fault, sp_fault, is_host_number, start_fault, start_words, start_line, is_start_call, shape_text, detail_text, details_text, StartFaultLaw};
 
 use crate::asked::{append_asked, is_last};
@@ -449,5 +449,5 @@ pub fn laws_of_details()
     ensures met { MetLaw }
     ensures long { LongLaw }
     ensures untaken { UntakenLaw }
-    ensures column { ColumnLaw }
+    ensures column { UntakenColumnLaw }
 {}

@@ -7,7 +7,7 @@ use Rattle.sp_cells.specs.declared.names.Column.{Column}
 use Rattle.sp_cells.specs.declared.values.ColumnType.{ColumnType}
 use Rattle.tcg_tokens.specs.Tree.{Tree}
 use Rattle.methods.specs.Settings.{cell_for, cells_for}
-use Rattle.reasons.specs.Untaken.{first_untaken, UntakenLaw, IsUntaken, ColumnLaw}
+use Rattle.reasons.specs.Untaken.{first_untaken, UntakenLaw, IsUntaken, UntakenColumnLaw}
 
 -- each column takes its value exactly where none is told
 one-taken : (taken rest : Bool) (column : ℕ) (later : Option ℕ) → (later ≡ None → rest ≡ true)
@@ -79,6 +79,6 @@ told-here types (column', value) ps column false is behind e =
       fault = ap (λ (c : ℕ). cell_for types (c, value)) (sym same) ∙ no-cell (cell_for types (column', value)) is;
     }
 
-pub column : ColumnLaw
+pub column : UntakenColumnLaw
 column types [] c e = absurd cc
 column types (p ∷ ps) c e = told-here types p ps c (is_some (cell_for types p)) refl (column types ps c) e
