@@ -1,3 +1,4 @@
 pub mod PortActs
+pub mod PortTold
 pub mod PortRuns
 pub mod PortTurns

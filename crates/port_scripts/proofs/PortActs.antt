@@ -1,5 +1,5 @@
 -- The acts of a port's steps as reasons see them.
-use Rattle.std.proofs.Common.{◌≡◌, ◌∙◌, ◌<◌, ℕ, Bool, true, false, List, [], ◌∷◌, ◌++◌, length, reverse, Option, Some, None, refl, sym, ap, subst}
+use Rattle.std.proofs.Common.{◌≡◌, ◌∙◌, ◌+◌, ◌<◌, ℕ, Bool, true, false, List, [], ◌∷◌, ◌++◌, length, reverse, Option, Some, None, refl, sym, ap, subst}
 use Rattle.std.specs.Prelude.{if◌then◌else◌, slice_get, nat_lt, not, is_some}
 use Rattle.std.proofs.lemmas.List.{length-reverse}
 use Rattle.audit.specs.declared.reason.AuditLine.{AuditLine}

@@ -102,13 +102,13 @@ pub(crate) fn explain_step(
     port: &Port,
     explainer: &mut Explainer,
     step: &Step,
-    refusal: Option<Vec<u8>>,
+    refused: Option<Vec<u8>>,
     ahead: &Ahead,
     line: u64,
     report: &mut Report,
 ) -> Result<(), AllocError>
     ensures explains { OnOk result ((o : Origin) (past : List LinedStep)
-        → option_map (λ t. t.items) refusal
+        → option_map (λ t. t.items) refused
         ≡ option_map (step_refusal_text (trace o (bare_steps past)) step.now)
         (refusal (trace o (bare_steps past)) step.now)
         → (refusal (trace o (bare_steps past)) step.now ≡ None → IsAhead ahead.now o past step.now)
@@ -119,7 +119,7 @@ pub(crate) fn explain_step(
         explainer.new report.old report.new) }
     ensures last { report.new.last ≡ report.old.last }
 {
-    if let Some(text) = refusal {
+    if let Some(text) = refused {
         report.pending.extend_from_slice(&text)?;
         return Ok(());
     }
