@@ -43,11 +43,7 @@ fn source_of_put(line: u64, put: Option<Put>) -> Source
 }
 
 /// What is told of the command that a port accepted last, as on a drive, since which step.
-fn acceptance_of(
-    port: &Port,
-    explainer: &Explainer,
-    ahead: &Ahead,
-) -> Result<Vec<u8>, AllocError>
+fn acceptance_of(port: &Port, explainer: &Explainer, ahead: &Ahead) -> Result<Vec<u8>, AllocError>
     ensures { IfOk result (λ text. (o : Origin) (past : List Sourced) (acts : List Act)
         → Agrees port.now.drive o acts → RecountsAll explainer.now o past
         → text.items ≡ denial_text Steps o past acts (command_put ahead.now.put)

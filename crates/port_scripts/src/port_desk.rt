@@ -80,7 +80,9 @@ fn stepped_turn(
     let ahead = ahead_of(alloc, phase.port(), step)?;
     let turn = phase.turn(text, report)?;
     let port = phase.port();
-    explain_step(alloc, port, explainer, step, refusal, &ahead, number, report)?;
+    explain_step(
+        alloc, port, explainer, step, refusal, &ahead, number, report,
+    )?;
     Ok(turn)
 }
 
