@@ -36,8 +36,7 @@ pub brings-fetched : (port : PortState) (brought : Brought) (tag : ℕ) (command
     → brought.payload.items ≡ buffer_front port.memory tag (payload_of port.drive.tper.store.config command.fis)
     → BringsAccepted port tag brought
 brings-fetched port brought tag command is cause payload = λ f so kind.
-    let same : command ≡ f = fetched-same command f (sym is ∙ so) in
-    (
+    let same : command ≡ f = fetched-same command f (sym is ∙ so) in (
       subst (λ (g : Fetched). brought.cause ≡ cause_of (Accept g.fis brought.payload.items)) same
           (cause (subst (λ (g : Fetched). slice_index g.fis 0 ≡ h2d_type) (sym same) kind)),
       subst (λ (g : Fetched). brought.payload.items

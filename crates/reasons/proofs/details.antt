@@ -1,1 +1,2 @@
 mod DetailLaws
+mod UntakenLaws

@@ -31,6 +31,7 @@ use Rattle.reasons.specs.Reasons.{worded_number, counted_words, reset_kind_text,
 use Rattle.reasons.specs.Rulings.{because_text}
 use Rattle.reasons.specs.Sent.{SentCall, call_sent, session_of_frame, sp_wanted}
 use Rattle.reasons.specs.Asked.{Seen, is_last, asked_text}
+use Rattle.reasons.specs.Untaken.{untaken_text}
 
 -- `session 4096 on LockingSP`
 abbrev pub session_words : Sp → ℕ → List ℕ
@@ -147,7 +148,7 @@ detail_text counted seen lives payload rules.NoSession =
     lost_text counted lives (session_of_frame (frame_in payload))
 detail_text counted seen lives payload rules.Shape = shape_text (call_sent payload)
 detail_text counted seen lives payload rules.WrongValue =
-    asked_text seen lives payload rules.WrongValue
+    asked_text seen lives payload rules.WrongValue ++ untaken_text seen.profile lives payload
 detail_text counted seen lives payload rules.OutsideTable =
     asked_text seen lives payload rules.OutsideTable
 detail_text counted seen lives payload rules.TooLong = asked_text seen lives payload rules.TooLong

@@ -12,4 +12,5 @@ pub mod Lifts
 pub mod Rulings
 pub mod Sent
 pub mod Asked
+pub mod Untaken
 pub mod Details

@@ -43,7 +43,7 @@ pub(crate) fn is_last(session: u64, last: Option<u64>) -> bool
 }
 
 /// Whether a number is that of the session that lives on an SP.
-fn is_its_session(session: u64, life: &SpLife) -> bool
+pub(crate) fn is_its_session(session: u64, life: &SpLife) -> bool
     ensures { result ≡ is_its_session session life.now }
 {
     life.busy.is_some() && is_last(session, life.last)
@@ -380,19 +380,20 @@ fn append_ask<R: Rows>(
     }
 }
 
-/// What a call asks of the Locking SP.
+/// What a call asks of an SP.
 #[tactic(auto, using(crate::proofs::asked::Values::values_are))]
-fn ask_in<'a>(
+pub(crate) fn ask_in<'a>(
     alloc: Global,
     profile: Profile,
+    sp: Sp,
     call: &'a Call,
 ) -> Result<Option<Ask<'a>>, AllocError>
-    ensures { IfOk result (λ ask. ask ≡ ask_of profile Locking (call_seen call.now).object
+    ensures { IfOk result (λ ask. ask ≡ ask_of profile sp (call_seen call.now).object
         (call_seen call.now).method (call_seen call.now).args) }
 {
     let object = uid_of(&call.object);
     let method = uid_of(&call.method);
-    let ask = read_ask(alloc, profile, Sp::Locking, object, method, &call.args)?;
+    let ask = read_ask(alloc, profile, sp, object, method, &call.args)?;
     Ok(ask)
 }
 
@@ -412,7 +413,7 @@ fn append_called<R: Rows>(
     let Some(call) = call else {
         return Ok(());
     };
-    let ask = ask_in(alloc, rows.profile(), call)?;
+    let ask = ask_in(alloc, rows.profile(), Sp::Locking, call)?;
     append_ask(
         alloc,
         text,

@@ -5,6 +5,7 @@ ghost use Rattle.tcg_tokens.specs.Tree.{tree};
 ghost use Rattle.reasons.specs.Lives.{life_on};
 ghost use Rattle.reasons.specs.Asked.{seen_with, MetLaw, LongLaw};
 ghost use Rattle.reasons.specs.Sent.{call_seen, sp_wanted};
+ghost use Rattle.reasons.specs.Untaken.{UntakenColumnLaw, UntakenLaw};
 ghost use Rattle.reasons.specs.Details.{session_words, act_line, started_words, freed_line, busy_since, busy_if, busy_text, ended_words, ended_since, elsewhere_line, ended_if, lost_on, lost_text, writes_fault, sp_fault, is_host_number, start_fault, start_words, start_line, is_start_call, shape_text, detail_text, details_text, StartFaultLaw};
 
 use crate::asked::{append_asked, is_last};
@@ -15,6 +16,7 @@ use crate::explained::{
 use crate::remedies::{append_object_name, sp_object};
 use crate::rulings::append_because;
 use crate::sent::{call_sent, session_named, sp_of_args};
+use crate::untaken::append_untaken;
 use audit::rules::Rule;
 use sp_cells::{Rows, Sp, Uid};
 use std::alloc::{AllocError, Global};
@@ -395,7 +397,11 @@ fn append_detail<R: Rows>(
             let call = call_sent(alloc, payload)?;
             append_shape(text, call.as_ref())
         }
-        Rule::WrongValue | Rule::OutsideTable | Rule::TooLong | Rule::NotSet(_) => {
+        Rule::WrongValue => {
+            append_asked(alloc, text, rows, is_open, sessions, payload, rule)?;
+            append_untaken(alloc, text, rows.profile(), sessions, payload)
+        }
+        Rule::OutsideTable | Rule::TooLong | Rule::NotSet(_) => {
             append_asked(alloc, text, rows, is_open, sessions, payload, rule)
         }
         _ => Ok(()),
@@ -436,9 +442,12 @@ pub fn details_of<R: Rows>(
 ///
 /// `starts`: a StartSession with an argument that is told to be at fault asks for nothing, whatever the others are. `met`: a
 /// range that is told to be met has a sector of the other one. `long`: a response of so many bytes has as many bytes of tokens
-/// as are told.
+/// as are told. `untaken`: a column of a Set is told exactly where a Set of these values sets nothing. `column`: that column takes
+/// no such value, and those before it take theirs.
 pub fn laws_of_details()
     ensures starts { StartFaultLaw }
     ensures met { MetLaw }
     ensures long { LongLaw }
+    ensures untaken { UntakenLaw }
+    ensures column { UntakenColumnLaw }
 {}

@@ -8,3 +8,4 @@ pub mod explained;
 pub mod remedies;
 pub mod rulings;
 mod sent;
+mod untaken;
