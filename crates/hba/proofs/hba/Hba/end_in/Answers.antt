@@ -24,7 +24,7 @@ pub returns-in_err-completed-clause-kept : goal.returns-in_err-completed-clause-
 returns-in_err-completed-clause-kept g c =
     let brought = rw (c.descriptors-at.ensures.value, c.requires.long, c.in-Ok.is) at c.gather.ensures in
     on_err c.from_residual.result _
-    (brought_reads g.M.HostMemory.does c.args.place c.args.len c.args.memory.now c.gather.new.memory (Ok c.gather.new.into)
+    (brought_reads g.M.HostMemory.does c.args.place c.args.len c.args.memory.now c.gather.new.memory (Ok c.gather.new.room)
     (brought.0, brought.1, brought.2))
 
 pub returns-clause-done : goal.returns-clause-done
@@ -35,13 +35,13 @@ returns-clause-done g c =
     c.deliver-delivered.new.memory c.show-done.result None c.give_back.ensures
     (serves_done g.M.HostMemory.does c.args.place c.args.len None (Complete c.args.tag) (Completed c.args.tag)
     c.args.self.now c.args.memory.now c.gather.new.memory c.show-done.new.self c.deliver-delivered.new.memory
-    c.gather.new.into c.as_slice-fises.result.now c.as_slice-bytes.result.now c.in-Ok.brought c.deliver-delivered.result
+    c.gather.new.room c.as_slice-fises.result.now c.as_slice-bytes.result.now c.in-Ok.brought c.deliver-delivered.result
     c.show-done.result None
     brought
     c.deliver-delivered.ensures
     (ap (λ (d : Done). Some d) (sym c.show-done.ensures.told))
     gives
-    (adds_completed c.args.self.now c.finish.new.self c.show-done.new.self c.args.tag c.gather.new.into
+    (adds_completed c.args.self.now c.finish.new.self c.show-done.new.self c.args.tag c.gather.new.room
     c.as_slice-fises.result.now c.as_slice-bytes.result.now c.deliver-delivered.result
     c.in_ok-completed.ensures.acted gives
     (shown_completed c.args.self.now c.finish.new.self c.show-done.new.self c.args.tag c.as_slice-fises.result.now
