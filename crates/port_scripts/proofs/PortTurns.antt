@@ -182,9 +182,10 @@ does-behind : (o : Origin) (past : List LinedStep) (number : ℕ) (step : Step)
     → (step_effect o (bare_steps past) step).steps ≡ bare_steps (steps_after o past number (Some step))
 does-behind o past number step = behind-is o past number step (refusal (trace o (bare_steps past)) step)
 
-held-steps : (held : Bool) (list : List Step)
-    → IfOk {A = PortEffect} {E = ℕ} (if held then Ok (record { steps = list; lines = [] }) else Err 1)
-    (λ effect. effect.steps ≡ list)
+abbrev held-effect : Bool → List Step → Result PortEffect ℕ
+held-effect held list = if held then Ok (record { steps = list; lines = [] }) else Err 1
+
+held-steps : (held : Bool) (list : List Step) → IfOk (held-effect held list) (λ effect. effect.steps ≡ list)
 held-steps true list = refl
 held-steps false list = tt
 

@@ -11,9 +11,9 @@ returns c = λ asks o past keeps.
     let was = subst (λ port. PortAgrees port o (bare_steps past)) (sym c.port.ensures) keeps.runs in
     let was-2 = subst (λ port. PortAgrees port o (bare_steps past)) (sym c.port-2.ensures) keeps.runs in
     does-step (port_line_of c.args.text.now) c.args.step.now c.args.text.now c.in_ok-turn.turn c.args.phase.now
-    c.turn-2.new.self c.explain_step.new.explainer o past c.args.number c.args.report.now c.turn-2.new.report
+    c.turn.new.self c.explain_step.new.explainer o past c.args.number c.args.report.now c.turn.new.report
     c.explain_step.new.report refl asks c.explain_step.ensures.last
     (λ line reads. c.in_ok-turn.ensures.does line reads o (bare_steps past) keeps.runs)
     (λ now. c.in_ok-explain_step.ensures.explains o past (c.in_ok-refusal.ensures o (bare_steps past) was)
     (λ lawful. c.in_ok-ahead.ensures o past was-2 lawful)
-    (subst (λ port. PortAgrees port o _) (sym c.port-3.ensures) now) keeps.recounts)
+    (subst (λ port. PortAgrees port o _) (sym c.port-port.ensures) now) keeps.recounts)
