@@ -31,9 +31,17 @@ most_serial_bytes = 20
 abbrev pub most_model_bytes : ℕ
 most_model_bytes = 40
 
--- the elements of an expression (this drive)
+-- the bytes of the name that a host gives to a row (Core 2.01, section 5.3, column CommonName)
+abbrev pub most_common_name_bytes : ℕ
+most_common_name_bytes = 32
+
+-- the elements of an expression under the profiles `Base` and `Field` (this drive), and of any: under `Opal` it can join each of
+-- the 16 Users with the Admins, by 16 operators (Opal SSC 2.01, section 4.3.1.6)
+abbrev pub most_short_elements : ℕ
+most_short_elements = 31
+
 abbrev pub most_elements : ℕ
-most_elements = 31
+most_elements = 33
 
 -- the wrong attempts that a new C_PIN row allows; 0 is no limit (this drive)
 abbrev pub new_try_limit : ℕ

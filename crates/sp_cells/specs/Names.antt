@@ -1,6 +1,6 @@
 -- The names of objects and methods (Core 2.01, section 5.1; Opal SSC 2.01, sections 4.2 and 4.3): no other file of
 -- the definitions has their numbers.
-use Rattle.std.specs.Prelude.{◌+◌, ◌/◌, ℕ, zero, suc}
+use Rattle.std.specs.Prelude.{◌+◌, ◌*◌, ◌/◌, ℕ, zero, suc}
 use Rattle.sp_cells.specs.declared.names.Uid.{Uid}
 use Rattle.sp_cells.specs.declared.names.Column.{Column}
 
@@ -15,6 +15,18 @@ table_of object = object.0 / 0x100000000
 abbrev pub table_table : ℕ
 table_table = 0x0001
 
+abbrev pub sp_info_table : ℕ
+sp_info_table = 0x0002
+
+abbrev pub sp_templates_table : ℕ
+sp_templates_table = 0x0003
+
+abbrev pub method_id_table : ℕ
+method_id_table = 0x0006
+
+abbrev pub access_control_table : ℕ
+access_control_table = 0x0007
+
 abbrev pub ace_table : ℕ
 ace_table = 0x0008
 
@@ -23,6 +35,12 @@ authority_table = 0x0009
 
 abbrev pub c_pin_table : ℕ
 c_pin_table = 0x000b
+
+abbrev pub secret_protect_table : ℕ
+secret_protect_table = 0x001d
+
+abbrev pub template_table : ℕ
+template_table = 0x0204
 
 abbrev pub sp_table : ℕ
 sp_table = 0x0205
@@ -45,6 +63,13 @@ key_table = 0x0806
 abbrev pub data_removal_table : ℕ
 data_removal_table = 0x1101
 
+-- a table as an object, and its row in the Table table
+abbrev pub table_uid : ℕ → Uid
+table_uid table = uid (table * 0x100000000)
+
+abbrev pub table_row : ℕ → Uid
+table_row table = uid (0x100000000 + table)
+
 -- the column of this number
 abbrev pub col : ℕ → Column
 col n = record { 0 = n }
@@ -63,6 +88,34 @@ admin_sp = uid 0x0000020500000001
 abbrev pub locking_sp : Uid
 locking_sp = uid 0x0000020500000002
 
+-- the one row of the SPInfo table of an SP, and the two of its SPTemplates table
+abbrev pub sp_info : Uid
+sp_info = uid 0x0000000200000001
+
+abbrev pub sp_template_base : Uid
+sp_template_base = uid 0x0000000300000001
+
+abbrev pub sp_template_own : Uid
+sp_template_own = uid 0x0000000300000002
+
+-- the rows of the Template table
+abbrev pub template_base : Uid
+template_base = uid 0x0000020400000001
+
+abbrev pub template_admin : Uid
+template_admin = uid 0x0000020400000002
+
+abbrev pub template_locking : Uid
+template_locking = uid 0x0000020400000006
+
+-- the table AccessControl as an object
+abbrev pub access_control : Uid
+access_control = uid 0x0000000700000000
+
+-- the row of SecretProtect on the column Key of K_AES_256
+abbrev pub secret_protect_key : Uid
+secret_protect_key = uid 0x0000001d0000001e
+
 -- the one row of the TPerInfo table
 abbrev pub tper_info : Uid
 tper_info = uid 0x0000020100030001
@@ -73,6 +126,13 @@ anybody = uid 0x0000000900000001
 
 abbrev pub sid : Uid
 sid = uid 0x0000000900000006
+
+-- the Admin SP's class Makers, and its Admin1, whose class is that of the Admins
+abbrev pub makers_class : Uid
+makers_class = uid 0x0000000900000003
+
+abbrev pub admin_sp_admin : Uid
+admin_sp_admin = uid 0x0000000900000201
 
 -- who holds the label of the drive (PSID feature set 1.00)
 abbrev pub psid : Uid
@@ -109,6 +169,10 @@ c_pin_sid = uid 0x0000000b00000001
 
 abbrev pub c_pin_msid : Uid
 c_pin_msid = uid 0x0000000b00008402
+
+-- of the Admin SP's Admin1
+abbrev pub c_pin_admin_sp_admin : Uid
+c_pin_admin_sp_admin = uid 0x0000000b00000201
 
 abbrev pub c_pin_psid : Uid
 c_pin_psid = uid 0x0000000b0001ff01
@@ -182,6 +246,30 @@ ace_admins = ace_uid 2
 
 abbrev pub ace_anybody_get_common_name : Uid
 ace_anybody_get_common_name = ace_uid 3
+
+-- on setting that name of a range and of an Admin, and of a User
+abbrev pub ace_admins_set_common_name : Uid
+ace_admins_set_common_name = ace_uid 4
+
+abbrev pub user_common_name_ace_base : ℕ
+user_common_name_ace_base = ace_base + 0x44000
+
+abbrev pub ace_user_set_common_name : ℕ → Uid
+ace_user_set_common_name n = uid (user_common_name_ace_base + n)
+
+-- on reading ACEs and authorities, and the mode of a key
+abbrev pub ace_ace_get_all : Uid
+ace_ace_get_all = ace_uid 0x38000
+
+abbrev pub ace_authority_get_all : Uid
+ace_authority_get_all = ace_uid 0x39000
+
+abbrev pub ace_key_mode : Uid
+ace_key_mode = ace_uid 0x3bfff
+
+-- the Admin SP: who may enable its Makers and its Admin1
+abbrev pub ace_set_enabled : Uid
+ace_set_enabled = ace_uid 0x30001
 
 -- the Admin SP: who may read and set SID's PIN, read the MSID and PSID's row, change the SPs, let a command reset the
 -- drive, and choose how it removes data
@@ -303,6 +391,16 @@ gen_key = uid 0x0000000600000010
 
 abbrev pub revert_sp : Uid
 revert_sp = uid 0x0000000600000011
+
+-- the methods of the opal profile alone
+abbrev pub next : Uid
+next = uid 0x0000000600000008
+
+abbrev pub get_acl : Uid
+get_acl = uid 0x000000060000000d
+
+abbrev pub random : Uid
+random = uid 0x0000000600000601
 
 -- the session manager and its methods (Core 2.01, section 5.2)
 abbrev pub session_manager : Uid

@@ -2,7 +2,7 @@
 use Rattle.std.specs.Prelude.{◌+◌, ◌-◌, ◌==◌, ◌&&◌, ℕ, nat_lt, nat_le, Option, Some, None, if◌then◌else◌}
 use Rattle.sp_cells.specs.declared.names.TheConstants.{RANGES, USERS, ADMINS}
 use Rattle.sp_cells.specs.declared.names.Uid.{Uid}
-use Rattle.sp_cells.specs.Names.{admin_base, user_base, admin_pin_base, user_pin_base, global_range, range_base, user_ace_base, range_get_ace_base, gen_key_ace_base, read_locked_ace_base, write_locked_ace_base, global_key, key_base}
+use Rattle.sp_cells.specs.Names.{admin_base, user_base, admin_pin_base, user_pin_base, global_range, range_base, user_ace_base, user_common_name_ace_base, range_get_ace_base, gen_key_ace_base, read_locked_ace_base, write_locked_ace_base, global_key, key_base}
 
 -- the number of an object, where it is one of the first rows behind a base
 abbrev pub number_behind : (base count : ℕ) → Uid → Option ℕ
@@ -31,9 +31,12 @@ user_pin_number = number_behind user_pin_base USERS
 abbrev pub range_number : Uid → Option ℕ
 range_number = member_number_from global_range.0 range_base RANGES
 
--- the ACEs of a User's PIN, of the columns and the key of a range, and of its two flags
+-- the ACEs of a User's PIN and name, of the columns and the key of a range, and of its two flags
 abbrev pub user_ace_number : Uid → Option ℕ
 user_ace_number = number_behind user_ace_base USERS
+
+abbrev pub user_common_name_ace_number : Uid → Option ℕ
+user_common_name_ace_number = number_behind user_common_name_ace_base USERS
 
 abbrev pub range_get_ace_number : Uid → Option ℕ
 range_get_ace_number = member_number_from range_get_ace_base range_get_ace_base RANGES

@@ -4,8 +4,8 @@ use Rattle.std.specs.List.{list_all}
 use Rattle.sp_cells.specs.declared.names.Uid.{Uid as UidType}
 use Rattle.sp_cells.specs.declared.names.Column.{Column}
 use Rattle.sp_cells.specs.declared.cells.Cell.{Cell}
-use Rattle.sp_cells.specs.declared.cells.Cell.TheVariants.{Number, Bytes, Uid, Numbers, Expr, Columns}
-use Rattle.sp_cells.specs.Limits.{most_pin_bytes, cryptographic_erase}
+use Rattle.sp_cells.specs.declared.cells.Cell.TheVariants.{Number, Bytes, Uid, Numbers, Expr, Columns, OneName}
+use Rattle.sp_cells.specs.Limits.{most_pin_bytes, most_common_name_bytes, cryptographic_erase}
 use Rattle.sp_cells.specs.Names.{table_of, ace_table, authority_table, c_pin_table, sp_table, locking_table, mbr_control_table, tper_info_table, data_removal_table}
 use Rattle.sp_cells.specs.ColumnNames.{uid_column, name_column, common_name_column, life_cycle_state_column, programmatic_reset_enable_column, pin_column, char_set_column, try_limit_column, tries_column, persistence_column}
 use Rattle.sp_cells.specs.ColumnNames.{is_class_column, class_column, enabled_column, operation_column, credential_column, boolean_expr_column, columns_column}
@@ -17,14 +17,18 @@ use Rattle.sp_cells.specs.declared.values.ColumnType.TheVariants as types
 -- a cell is a value of this type
 abbrev pub is_of_type : ColumnType → Cell → Bool
 is_of_type types.Name (Bytes b) = true
+is_of_type types.CommonName (Bytes b) = nat_le (length b) most_common_name_bytes
 is_of_type types.Secret (Bytes b) = nat_le (length b) most_pin_bytes
 is_of_type types.Object (Uid u) = true
 is_of_type types.Number (Number n) = true
 is_of_type types.Flag (Number n) = nat_le n 1
 is_of_type types.Mechanism (Number n) = n == cryptographic_erase
 is_of_type types.Resets (Numbers r) = true
+is_of_type types.PowerCycleResets (Numbers r) = r.power_cycle
 is_of_type types.Expression (Expr e) = true
+is_of_type types.LongExpression (Expr e) = true
 is_of_type types.Columns (Columns c) = true
+is_of_type types.OneName (OneName b) = true
 is_of_type _ _ = false
 
 -- the type of a column in a list of columns

@@ -214,6 +214,9 @@ pub enum Cell {
 
     /// The columns of an ACE.
     Columns(Columns),
+
+    /// A list of one name.
+    OneName(Bytes),
 }
 
 impl Cell {
@@ -228,6 +231,7 @@ impl Cell {
             Cell::Numbers(resets) => Cell::Numbers(*resets),
             Cell::Expr(expr) => Cell::Expr(expr.copy()?),
             Cell::Columns(columns) => Cell::Columns(columns.copy()?),
+            Cell::OneName(name) => Cell::OneName(name.copy()?),
         })
     }
 }

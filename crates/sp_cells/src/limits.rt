@@ -24,8 +24,14 @@ pub const MOST_SERIAL_BYTES: usize = 20;
 /// The most bytes of a model number.
 pub const MOST_MODEL_BYTES: usize = 40;
 
-/// The most elements of an expression.
-pub const MOST_ELEMENTS: usize = 31;
+/// The most bytes of the name that a host gives to a row.
+pub const MOST_COMMON_NAME_BYTES: usize = 32;
+
+/// The most elements of an expression under the profiles `Base` and `Field`.
+pub const MOST_SHORT_ELEMENTS: usize = 31;
+
+/// The most elements of an expression: under the profile `Opal` it can join each User with the Admins.
+pub const MOST_ELEMENTS: usize = 33;
 
 /// The wrong attempts that a new PIN row allows.
 pub const NEW_TRY_LIMIT: u64 = 5;

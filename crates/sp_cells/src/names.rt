@@ -2,8 +2,8 @@
 
 ghost use Rattle.std.specs.Prelude.{◌≡◌, ◌+◌, ◌-◌, ◌<◌, ◌≤◌, ◌^◌};
 ghost use Rattle.std.specs.Int.{w64, to_be_bytes, from_be_bytes};
-ghost use Rattle.sp_cells.specs.Names.{table_of, range_uid, key_uid, admin_uid, user_uid, admin_pin_uid, user_pin_uid, ace_c_pin_user_set_pin, ace_range_get, ace_range_set_read_locked, ace_range_set_write_locked, ace_key_gen_key};
-ghost use Rattle.sp_cells.specs.Numbers.{number_behind, admin_number, user_number, admin_pin_number, user_pin_number, range_number, user_ace_number, range_get_ace_number, read_locked_ace_number, write_locked_ace_number, gen_key_ace_number, key_number};
+ghost use Rattle.sp_cells.specs.Names.{table_of, range_uid, key_uid, admin_uid, user_uid, admin_pin_uid, user_pin_uid, ace_c_pin_user_set_pin, ace_user_set_common_name, ace_range_get, ace_range_set_read_locked, ace_range_set_write_locked, ace_key_gen_key};
+ghost use Rattle.sp_cells.specs.Numbers.{number_behind, admin_number, user_number, admin_pin_number, user_pin_number, range_number, user_ace_number, user_common_name_ace_number, range_get_ace_number, read_locked_ace_number, write_locked_ace_number, gen_key_ace_number, key_number};
 
 /// The number of ranges beside the global one: they are numbered from 1.
 pub const RANGES: u8 = 16;
@@ -26,6 +26,8 @@ const RANGE_BASE: u64 = 0x0000_0802_0003_0000;
 
 const USER_ACE_BASE: u64 = 0x0000_0008_0003_a800;
 
+const USER_COMMON_NAME_ACE_BASE: u64 = 0x0000_0008_0004_4000;
+
 const KEY_BASE: u64 = 0x0000_0806_0003_0000;
 
 const GEN_KEY_ACE_BASE: u64 = 0x0000_0008_0003_b800;
@@ -40,11 +42,23 @@ const WRITE_LOCKED_ACE_BASE: u64 = 0x0000_0008_0003_e800;
 pub mod tables {
     pub const TABLE: u64 = 0x0001;
 
+    pub const SP_INFO: u64 = 0x0002;
+
+    pub const SP_TEMPLATES: u64 = 0x0003;
+
+    pub const METHOD_ID: u64 = 0x0006;
+
+    pub const ACCESS_CONTROL: u64 = 0x0007;
+
     pub const ACE: u64 = 0x0008;
 
     pub const AUTHORITY: u64 = 0x0009;
 
     pub const C_PIN: u64 = 0x000b;
+
+    pub const SECRET_PROTECT: u64 = 0x001d;
+
+    pub const TEMPLATE: u64 = 0x0204;
 
     pub const SP: u64 = 0x0205;
 
@@ -80,6 +94,30 @@ impl Uid {
     /// The SP that a session is on.
     pub const THIS_SP: Uid = Uid(0x0000_0000_0000_0001);
 
+    /// The one row of the SPInfo table of an SP.
+    pub const SP_INFO: Uid = Uid(0x0000_0002_0000_0001);
+
+    /// The row of the SPTemplates table of an SP on the template that each SP has.
+    pub const SP_TEMPLATE_BASE: Uid = Uid(0x0000_0003_0000_0001);
+
+    /// The row of the SPTemplates table of an SP on its own template.
+    pub const SP_TEMPLATE_OWN: Uid = Uid(0x0000_0003_0000_0002);
+
+    /// The row of the Template table on the template that each SP has.
+    pub const TEMPLATE_BASE: Uid = Uid(0x0000_0204_0000_0001);
+
+    /// The row of the Template table on the Admin SP's template.
+    pub const TEMPLATE_ADMIN: Uid = Uid(0x0000_0204_0000_0002);
+
+    /// The row of the Template table on the Locking SP's template.
+    pub const TEMPLATE_LOCKING: Uid = Uid(0x0000_0204_0000_0006);
+
+    /// The table AccessControl as an object.
+    pub const ACCESS_CONTROL: Uid = Uid(0x0000_0007_0000_0000);
+
+    /// The row of SecretProtect on the column Key of K_AES_256.
+    pub const SECRET_PROTECT_KEY: Uid = Uid(0x0000_001d_0000_001e);
+
     /// The one row of the TPerInfo table.
     pub const TPER_INFO: Uid = Uid(0x0000_0201_0003_0001);
 
@@ -101,6 +139,12 @@ impl Uid {
     /// The class of the Locking SP's Users.
     pub const USERS: Uid = Uid(0x0000_0009_0003_0000);
 
+    /// The Admin SP's class Makers.
+    pub const MAKERS: Uid = Uid(0x0000_0009_0000_0003);
+
+    /// The Admin SP's Admin1, of the class of its Admins.
+    pub const ADMIN_SP_ADMIN: Uid = Uid(0x0000_0009_0000_0201);
+
     /// Who holds the label of the drive (PSID feature set 1.00).
     pub const PSID: Uid = Uid(0x0000_0009_0001_ff01);
 
@@ -109,6 +153,9 @@ impl Uid {
 
     /// The PIN row that anybody may read.
     pub const C_PIN_MSID: Uid = Uid(0x0000_000b_0000_8402);
+
+    /// The PIN row of the Admin SP's Admin1.
+    pub const C_PIN_ADMIN_SP_ADMIN: Uid = Uid(0x0000_000b_0000_0201);
 
     /// The PIN row of PSID.
     pub const C_PIN_PSID: Uid = Uid(0x0000_000b_0001_ff01);
@@ -148,6 +195,21 @@ impl Uid {
 
     /// Everyone may read the name that a host gave.
     pub const ACE_ANYBODY_GET_COMMON_NAME: Uid = Uid(0x0000_0008_0000_0003);
+
+    /// The Admins may name a range and an Admin (ACE_Admins_Set_CommonName).
+    pub const ACE_ADMINS_SET_COMMON_NAME: Uid = Uid(0x0000_0008_0000_0004);
+
+    /// Who may read ACEs (ACE_ACE_Get_All).
+    pub const ACE_ACE_GET_ALL: Uid = Uid(0x0000_0008_0003_8000);
+
+    /// Who may read authorities (ACE_Authority_Get_All).
+    pub const ACE_AUTHORITY_GET_ALL: Uid = Uid(0x0000_0008_0003_9000);
+
+    /// Who may read the mode of a key (ACE_K_AES_Mode).
+    pub const ACE_KEY_MODE: Uid = Uid(0x0000_0008_0003_bfff);
+
+    /// Who may enable the Admin SP's Makers and its Admin1 (ACE_Set_Enabled).
+    pub const ACE_SET_ENABLED: Uid = Uid(0x0000_0008_0003_0001);
 
     /// Who may read the C_PIN row of SID but for its PIN.
     pub const ACE_C_PIN_SID_GET_NOPIN: Uid = Uid(0x0000_0008_0000_8c02);
@@ -238,6 +300,15 @@ impl Uid {
 
     /// The method RevertSP.
     pub const REVERT_SP: Uid = Uid(0x0000_0006_0000_0011);
+
+    /// The method Next.
+    pub const NEXT: Uid = Uid(0x0000_0006_0000_0008);
+
+    /// The method GetACL.
+    pub const GET_ACL: Uid = Uid(0x0000_0006_0000_000d);
+
+    /// The method Random.
+    pub const RANDOM: Uid = Uid(0x0000_0006_0000_0601);
 
     /// The row of a range in the Locking table; 0 is the global range.
     pub fn range(number: u8) -> Uid
@@ -339,6 +410,20 @@ impl Uid {
         ensures { result ≡ user_ace_number self }
     {
         self.number_behind(USER_ACE_BASE, USERS)
+    }
+
+    /// Who may name a User (ACE_User1_Set_CommonName and those behind it).
+    pub fn ace_user_set_common_name(number: u8) -> Uid
+        ensures { result ≡ ace_user_set_common_name number }
+    {
+        Uid(USER_COMMON_NAME_ACE_BASE + u64::from(number))
+    }
+
+    /// The number of the User whom this ACE lets name.
+    pub fn user_common_name_ace_number(self) -> Option<u8>
+        ensures { result ≡ user_common_name_ace_number self }
+    {
+        self.number_behind(USER_COMMON_NAME_ACE_BASE, USERS)
     }
 
     /// Who may read a range under the profile `Field`, 0 being the global one
@@ -471,6 +556,87 @@ impl Column {
     /// The name that the host gives, in most tables.
     pub const COMMON_NAME: Column = Column(2);
 
+    /// The SP of a row of the SPInfo table.
+    pub const SP_ID: Column = Column(1);
+
+    /// The name of that SP.
+    pub const SP_NAME: Column = Column(2);
+
+    /// The bytes of that SP.
+    pub const SIZE: Column = Column(3);
+
+    /// The bytes of that SP that are in use.
+    pub const SIZE_IN_USE: Column = Column(4);
+
+    /// The time that a session of that SP lasts.
+    pub const SP_SESSION_TIMEOUT: Column = Column(5);
+
+    /// Whether that SP may be used.
+    pub const SP_ENABLED: Column = Column(6);
+
+    /// The template of a row of the SPTemplates table.
+    pub const TEMPLATE_ID: Column = Column(1);
+
+    /// The name of that template.
+    pub const TEMPLATE_NAME: Column = Column(2);
+
+    /// The version of that template.
+    pub const TEMPLATE_VERSION: Column = Column(3);
+
+    /// The revision of a template.
+    pub const REVISION_NUMBER: Column = Column(2);
+
+    /// How many SPs have a template.
+    pub const INSTANCES: Column = Column(3);
+
+    /// How many SPs can have a template.
+    pub const MAX_INSTANCES: Column = Column(4);
+
+    /// The table whose column is protected.
+    pub const PROTECTED_TABLE: Column = Column(1);
+
+    /// The number of that column.
+    pub const COLUMN_NUMBER: Column = Column(2);
+
+    /// How that column is protected.
+    pub const PROTECT_MECHANISMS: Column = Column(3);
+
+    /// The authority that made an SP.
+    pub const ORG: Column = Column(2);
+
+    /// What was in force as an SP was made.
+    pub const EFFECTIVE_AUTH: Column = Column(3);
+
+    /// The bytes of an SP.
+    pub const SP_BYTES: Column = Column(5);
+
+    /// Whether an SP is frozen.
+    pub const FROZEN: Column = Column(7);
+
+    /// The bytes of the TPer.
+    pub const TPER_BYTES: Column = Column(1);
+
+    /// The identifier of the TPer.
+    pub const GUDID: Column = Column(2);
+
+    /// The generation of the TPer.
+    pub const GENERATION: Column = Column(3);
+
+    /// The firmware of the TPer.
+    pub const FIRMWARE_VERSION: Column = Column(4);
+
+    /// The protocol of the TPer.
+    pub const PROTOCOL_VERSION: Column = Column(5);
+
+    /// The bytes that new SPs can have.
+    pub const SPACE_FOR_ISSUANCE: Column = Column(6);
+
+    /// The names of the security subsystem classes of the TPer.
+    pub const SSC: Column = Column(7);
+
+    /// The mode in which a key is used.
+    pub const MODE: Column = Column(4);
+
     /// The secret of a C_PIN row.
     pub const PIN: Column = Column(3);
 
@@ -494,6 +660,33 @@ impl Column {
 
     /// Whether an authority may be used.
     pub const ENABLED: Column = Column(5);
+
+    /// Whether an authority wants its messages secured.
+    pub const SECURE: Column = Column(6);
+
+    /// How an authority hashes and signs.
+    pub const HASH_AND_SIGN: Column = Column(7);
+
+    /// Whether an authority shows a certificate.
+    pub const PRESENT_CERTIFICATE: Column = Column(8);
+
+    /// Who signs the answer to an authority.
+    pub const RESPONSE_SIGN: Column = Column(11);
+
+    /// Who exchanges keys with an authority.
+    pub const RESPONSE_EXCH: Column = Column(12);
+
+    /// How often an authority may be used.
+    pub const LIMIT: Column = Column(15);
+
+    /// How often an authority was used.
+    pub const USES: Column = Column(16);
+
+    /// What of an authority's use is logged.
+    pub const LOG: Column = Column(17);
+
+    /// Where it is logged.
+    pub const LOG_TO: Column = Column(18);
 
     /// How an authority proves itself.
     pub const OPERATION: Column = Column(9);

@@ -4,7 +4,7 @@ ghost use Rattle.std.specs.Prelude.{◌≡◌, ◌<◌, ◌≤◌};
 ghost use Rattle.sp_cells.specs.Values.{is_of_type, type_at, sp_types, ace_types, authority_types, c_pin_types, locking_types, mbr_control_types, tper_info_types, data_removal_types, table_types, column_type as column_type_of, is_taken, takes_each};
 
 use crate::cells::Cell;
-use crate::limits::{CRYPTOGRAPHIC_ERASE, MOST_PIN_BYTES};
+use crate::limits::{CRYPTOGRAPHIC_ERASE, MOST_COMMON_NAME_BYTES, MOST_PIN_BYTES};
 use crate::names::{Column, Uid, tables};
 
 /// What a column takes.
@@ -12,6 +12,9 @@ use crate::names::{Column, Uid, tables};
 pub enum ColumnType {
     /// Bytes of any length.
     Name,
+
+    /// Bytes, at most as many as the name has that a host gives.
+    CommonName,
 
     /// Bytes, at most as many as a PIN has.
     Secret,
@@ -30,9 +33,19 @@ pub enum ColumnType {
     /// A set of resets.
     Resets,
 
+    /// A set of resets that has the power cycle (Opal SSC 2.01, sections 4.3.5.2.2 and 4.3.5.3.1).
+    PowerCycleResets,
+
+    /// An expression, as the profiles `Base` and `Field` take it.
     Expression,
 
+    /// An expression, as the profile `Opal` takes it.
+    LongExpression,
+
     Columns,
+
+    /// A list of one name.
+    OneName,
 }
 
 impl ColumnType {
@@ -42,6 +55,10 @@ impl ColumnType {
     {
         match self {
             ColumnType::Name => matches!(cell, Cell::Bytes(_)),
+            ColumnType::CommonName => match cell {
+                Cell::Bytes(bytes) => bytes.as_slice().len() <= MOST_COMMON_NAME_BYTES,
+                _ => false,
+            },
             ColumnType::Secret => match cell {
                 Cell::Bytes(bytes) => bytes.as_slice().len() <= MOST_PIN_BYTES,
                 _ => false,
@@ -57,8 +74,13 @@ impl ColumnType {
                 _ => false,
             },
             ColumnType::Resets => matches!(cell, Cell::Numbers(_)),
-            ColumnType::Expression => matches!(cell, Cell::Expr(_)),
+            ColumnType::PowerCycleResets => match cell {
+                Cell::Numbers(resets) => resets.power_cycle,
+                _ => false,
+            },
+            ColumnType::Expression | ColumnType::LongExpression => matches!(cell, Cell::Expr(_)),
             ColumnType::Columns => matches!(cell, Cell::Columns(_)),
+            ColumnType::OneName => matches!(cell, Cell::OneName(_)),
         }
     }
 }
