@@ -55,6 +55,10 @@ pub enum Rule {
     WrongValue,
     /// The cells of a Set are refused for this fault.
     NotSet(SetError),
+    /// The row behind which a Next should go on is none of its table (Core 2.01, section 5.3.3.8).
+    NoSuchRow,
+    /// The access list has no line for the object and the method that a GetACL names (Core 2.01, section 5.3.3.13).
+    NoAccessLine,
     /// Activate, Revert, RevertSP and GenKey do nothing within a transaction.
     InTransaction,
     /// GenKey of an object that is no key of a range.

@@ -64,6 +64,8 @@ pub fn rule_words(rule: Rule) -> &'static [u8]
         Rule::WrongValue =>
             b"a value that its column does not take, or bytes behind the table's end",
         Rule::NotSet(fault) => of_fault(fault),
+        Rule::NoSuchRow => b"the table has no such row",
+        Rule::NoAccessLine => b"the access list has no line for that object and that method",
         Rule::InTransaction => b"the session has a transaction open",
         Rule::NoKey => b"the object is no key of a range",
         Rule::GlobalLocked => b"the global range would be kept, and is locked both ways",
