@@ -7,7 +7,7 @@ use Rattle.sp_cells.specs.declared.names.Uid.{Uid}
 use Rattle.sp_cells.specs.declared.names.Sp.{Sp}
 use Rattle.sp_cells.specs.declared.names.Column.{Column}
 use Rattle.sp_cells.specs.declared.cells.Cell.{Cell}
-use Rattle.sp_cells.specs.declared.cells.Cell.TheVariants.{Number, Bytes, Uid as Object, Numbers, Expr, Columns}
+use Rattle.sp_cells.specs.declared.cells.Cell.TheVariants.{Number, Bytes, Uid as Object, Numbers, Expr, Columns, OneName}
 use Rattle.sp_cells.specs.Names.{uid}
 use Rattle.sp_cells.specs.ColumnNames.{boolean_expr_column}
 use Rattle.sp_cells.specs.Flat.{LookUp}
@@ -65,6 +65,7 @@ holds_cell held (Some (Bytes n)) h = absurd (clash h)
 holds_cell held (Some (Object n)) h = absurd (clash h)
 holds_cell held (Some (Numbers n)) h = absurd (clash h)
 holds_cell held (Some (Columns n)) h = absurd (clash h)
+holds_cell held (Some (OneName n)) h = absurd (clash h)
 
 cell_holds : (held : List Uid) (c : Option Cell) → HoldsIn held c → holds_in held c ≡ true
 cell_holds held None h = absurd h
@@ -74,6 +75,7 @@ cell_holds held (Some (Bytes n)) h = absurd h
 cell_holds held (Some (Object n)) h = absurd h
 cell_holds held (Some (Numbers n)) h = absurd h
 cell_holds held (Some (Columns n)) h = absurd h
+cell_holds held (Some (OneName n)) h = absurd h
 
 -- an ACE is found exactly where the column has one
 pub some_ace : (profile : Profile) (look : LookUp) (sp : Sp) (o m : Uid) (k : Option Column) (held : List Uid) (u : Uid) → ace_of profile look sp o m k held ≡ Some u → HasAce profile look sp o m k held

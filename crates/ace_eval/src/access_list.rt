@@ -2,5 +2,8 @@
 //! which method of which object.
 
 pub mod access;
+pub mod laws;
+mod opal;
 
 pub use access::access_row;
+pub use laws::laws_of_access_list;
