@@ -15,7 +15,7 @@ use Rattle.trusted_cmds.specs.Commands.{fis_of, tag_with, is_queued as is_queued
 use Rattle.tcg_calls.specs.Asks.{uid_of}
 use Rattle.tcg_calls.specs.Statuses.{fail, invalid_parameter, response_overflow, not_authorized}
 use Rattle.tcg_calls.specs.declared.call_shapes.ask.Ask.{Ask}
-use Rattle.tcg_calls.specs.declared.call_shapes.ask.Ask.TheVariants.{GetCells, GetBytes, SetCells, SetBytes, Authenticate, Activate, Revert, GenKey, RevertSp, Other}
+use Rattle.tcg_calls.specs.declared.call_shapes.ask.Ask.TheVariants.{GetCells, GetBytes, SetCells, SetBytes, Authenticate, Activate, Revert, GenKey, RevertSp, Next, GetAcl, Other}
 use Rattle.tcg_calls.specs.Limits.{most_response}
 use Rattle.sessions.specs.Starts.{is_in_use}
 use Rattle.shadow_mbr.specs.Erasure.{no_sectors, all_sectors}
@@ -27,7 +27,7 @@ use Rattle.methods.specs.Listed.{listed}
 use Rattle.methods.proofs.ListLaws.{list_law}
 use Rattle.sp_cells.specs.Numbers.{key_number}
 use Rattle.methods.specs.Erasures.{erased_by_key, erased_by_revert_sp, is_wholly_locked}
-use Rattle.methods.specs.Judgement.{RevertsSp, erases, Judgement, Refuses, Gives, Activates, Reverts, Standing, bytes_between, rows_given, gives, listing, makes, unless_open, does_ask, does, judged, asked, Denies}
+use Rattle.methods.specs.Judgement.{RevertsSp, erases, Judgement, Refuses, Gives, Activates, Reverts, Standing, bytes_between, rows_given, gives, listing, makes, unless_open, does_ask, does, judged, asked, Denies, rows_told, acl_told}
 use Rattle.history.specs.Decisions.{is_session_com_id, is_trusted}
 use Rattle.history.specs.Tcg.{takes_blocks, answers, tcg}
 use Rattle.methods.specs.Calls.{outcome_of}
@@ -256,6 +256,16 @@ reverts_sp_deed f session true true false valid = absurd (cc)
 reverts_sp_deed f session false true false valid = (λ e. refl, refl)
 reverts_sp_deed f session locked false false valid = (λ e. absurd (cc), refl)
 
+told_deed : (f : Facts) (session : Begun) (x : Option (List Uid))
+    → (outcome_of f.rows session.sp (rows_told x)).deed ≡ Unchanged
+told_deed f session None = refl
+told_deed f session (Some rows) = by_room f session _ _
+
+acl_deed : (f : Facts) (session : Begun) (x : Option (List Uid))
+    → (outcome_of f.rows session.sp (acl_told x)).deed ≡ Unchanged
+acl_deed f session None = refl
+acl_deed f session (Some acl) = by_room f session _ _
+
 effect_is : (f : Facts) (session : Begun) (object : Uid) (ask : Ask) (has : Bool)
     → takes_effect (does_ask (standing f session) object (if has then ask else Other)) ≡ true
     → EffectIs f session object ask
@@ -275,6 +285,8 @@ effect_is f session object Activate true valid =
 effect_is f session object Revert true valid = reverts_deed f session _ _ valid
 effect_is f session object GenKey true valid = erases_deed f session (key_number object) _ valid
 effect_is f session object (RevertSp keep) true valid = reverts_sp_deed f session (is_wholly_locked (f.rows_of session.number)) keep _ valid
+effect_is f session object (Next after count) true valid = told_deed f session _
+effect_is f session object (GetAcl about what) true valid = acl_deed f session _
 effect_is f session object Other true valid = absurd (cc)
 
 judged_so_far : (o : Origin) (before : List Step) (step : Step) (session : Begun)

@@ -16,7 +16,7 @@ use Rattle.trusted_cmds.specs.declared.command.Command.TheVariants.{Send}
 use Rattle.tcg_calls.specs.Asks.{uid_of}
 use Rattle.tcg_calls.specs.Statuses.{success, not_authorized}
 use Rattle.tcg_calls.specs.declared.call_shapes.ask.Ask.{Ask}
-use Rattle.tcg_calls.specs.declared.call_shapes.ask.Ask.TheVariants.{GetCells, GetBytes, SetCells, SetBytes, Authenticate, Activate, Revert, GenKey, RevertSp, Other}
+use Rattle.tcg_calls.specs.declared.call_shapes.ask.Ask.TheVariants.{GetCells, GetBytes, SetCells, SetBytes, Authenticate, Activate, Revert, GenKey, RevertSp, Next, GetAcl, Other}
 use Rattle.shadow_mbr.specs.Erasure.{no_sectors, all_sectors}
 use Rattle.sp_cells.specs.Numbers.{key_number}
 use Rattle.methods.specs.Erasures.{erased_by_key, erased_by_revert_sp, is_wholly_locked}
@@ -113,6 +113,8 @@ EffectIs f session object GenKey deed =
 EffectIs f session object (RevertSp keep) deed =
     (keep ≡ true → is_wholly_locked (f.rows_of session.number) ≡ false)
     × (deed ≡ Reverted Locking (erased_by_revert_sp f.rows keep))
+EffectIs f session object (Next after count) deed = deed ≡ Unchanged
+EffectIs f session object (GetAcl about what) deed = deed ≡ Unchanged
 EffectIs f session object Other deed = ⊥
 
 -- A call that is refused for want of an entry: it changes nothing, and is answered NOT_AUTHORIZED,

@@ -10,17 +10,17 @@ use Rattle.basics.specs.declared.profile.Profile.TheVariants.{Base, Field, Opal}
 use Rattle.sp_cells.specs.declared.names.Uid.{Uid}
 use Rattle.sp_cells.specs.declared.names.Sp.{Sp}
 use Rattle.sp_cells.specs.declared.names.Sp.TheVariants.{Admin, Locking}
-use Rattle.sp_cells.specs.Names.{get, set, authenticate, activate, revert, gen_key, revert_sp, c_pin_sid, tper_info, data_removal}
+use Rattle.sp_cells.specs.Names.{get, set, authenticate, activate, revert, gen_key, revert_sp, next, get_acl, uid}
 use Rattle.sp_cells.specs.Authorities.{authorities_of_locking}
 use Rattle.sp_cells.specs.Flat.{sp_eq}
-use Rattle.ace_eval.specs.Access.{Grant, access_list, acl_in, this_sp_grants, owner_grants, label_grants, removal_grants, authority_grants, fixed_ace_gets, user_ace_grants, read_locked_ace_grants, write_locked_ace_grants, done_ace_grants, pin_grants, range_get_ace_grants, range_get_grants, range_set_grants, mbr_grants, info_grants, datastore_grants, key_grants, gen_key_ace_grants}
+use Rattle.ace_eval.specs.Access.{Grant, access_list, acl_in, this_sp_grants, owner_grants, label_grants, removal_grants, authority_grants, fixed_ace_gets, user_ace_grants, read_locked_ace_grants, write_locked_ace_grants, done_ace_grants, pin_grants, range_get_ace_grants, range_get_grants, range_set_grants, mbr_grants, info_grants, datastore_grants, key_grants, gen_key_ace_grants, own_grants, listed_grants, told_grants, method_grants, maker_grants, name_grants, mode_grants}
 use Rattle.tcg_tokens.specs.Tree.{Tree, Trees}
 use Rattle.tcg_tokens.specs.Tree as tree
-use Rattle.tcg_calls.specs.Parameters.{start_row_parameter, end_row_parameter, start_column_parameter, end_column_parameter, where_parameter, values_parameter, proof_parameter, keep_global_range_key_parameter}
+use Rattle.tcg_calls.specs.Parameters.{start_row_parameter, end_row_parameter, start_column_parameter, end_column_parameter, where_parameter, values_parameter, next_where_parameter, next_count_parameter, proof_parameter, keep_global_range_key_parameter}
 use Rattle.tcg_calls.specs.Named.{values_of, list_in, assignments, value_of, options, number_or, number_if_any, bytes_or_empty}
-use Rattle.tcg_calls.specs.Asks.{uid_of, is_byte_table, cellblock, columns_between, columns_asked_in, is_ordered, rows_between, rows_in, cells_of, cells_to_set, cells_in, bytes_to_set, bytes_in, proof_of, proof_in, attempt_in, without_arguments, get_of, set_of, keep_of, keep_in, other_ask_of, ask_of}
+use Rattle.tcg_calls.specs.Asks.{uid_of, is_byte_table, cellblock, columns_between, columns_asked_in, is_ordered, rows_between, rows_in, cells_of, cells_to_set, cells_in, bytes_to_set, bytes_in, proof_of, proof_in, attempt_in, without_arguments, get_of, set_of, keep_of, keep_in, row_if_any, rows_behind, next_in, get_acl_of, other_ask_of, ask_of}
 use Rattle.tcg_calls.specs.declared.call_shapes.ask.Ask.{Ask}
-use Rattle.tcg_calls.specs.declared.call_shapes.ask.Ask.TheVariants.{GetCells, GetBytes, SetCells, SetBytes, Authenticate, Activate, Revert, GenKey, RevertSp, Other}
+use Rattle.tcg_calls.specs.declared.call_shapes.ask.Ask.TheVariants.{GetCells, GetBytes, SetCells, SetBytes, Authenticate, Activate, Revert, GenKey, RevertSp, Next, GetAcl, Other}
 use Rattle.methods.specs.Judgement.{asked}
 use Rattle.history.specs.Deeds.{is_set_in_admin}
 
@@ -29,6 +29,12 @@ abbrev is_own_of_field : Profile → Uid → Uid → Bool
 is_own_of_field Base wanted method = false
 is_own_of_field Field wanted method = method.0 == wanted.0
 is_own_of_field Opal wanted method = method.0 == wanted.0
+
+-- and one of the opal profile
+abbrev is_own_of_opal : Profile → Uid → Uid → Bool
+is_own_of_opal Base wanted method = false
+is_own_of_opal Field wanted method = false
+is_own_of_opal Opal wanted method = method.0 == wanted.0
 
 abbrev pub is_own : Profile → Ask → Uid → Bool
 is_own profile (GetCells first last) method = method.0 == get.0
@@ -40,6 +46,8 @@ is_own profile Activate method = method.0 == activate.0
 is_own profile Revert method = method.0 == revert.0
 is_own profile GenKey method = is_own_of_field profile gen_key method
 is_own profile (RevertSp keep) method = is_own_of_field profile revert_sp method
+is_own profile (Next after count) method = is_own_of_opal profile next method
+is_own profile (GetAcl about what) method = is_own_of_opal profile get_acl method
 is_own profile Other method = true
 
 -- a method of the field profile
@@ -157,6 +165,27 @@ keep-gives p (Some ps) h = by_number (number_or 0 (value_of keep_global_range_ke
     by_number None = gives-none p
     by_number (Some n) = gives-if p (n == 0) _ _ (gives-some p (RevertSp false) (h false)) (gives-if p (n == 1) _ _ (gives-some p (RevertSp true) (h true)) (gives-none p))
 
+next-gives : (p : Ask → Bool) (x : Option (List (ℕ × Tree))) → ((after : Option Uid) (count : Option ℕ) → p (Next after count) ≡ true) → Gives p (next_in x)
+next-gives p None h = gives-none p
+next-gives p (Some ps) h = by_row (row_if_any (value_of next_where_parameter ps)) (number_if_any (value_of next_count_parameter ps))
+  where
+    by_row : (after : Option (Option Uid)) (count : Option (Option ℕ)) → Gives p (rows_behind after count)
+    by_row None count = gives-none p
+    by_row (Some after) None = gives-none p
+    by_row (Some after) (Some count) = gives-some p (Next after count) (h after count)
+
+acl-gives : (p : Ask → Bool) (args : List Tree) → ((about what : Uid) → p (GetAcl about what) ≡ true) → Gives p (get_acl_of args)
+acl-gives p [] h = gives-none p
+acl-gives p (tree.number n ∷ ts) h = gives-none p
+acl-gives p (tree.list us ∷ ts) h = gives-none p
+acl-gives p (tree.named n v ∷ ts) h = gives-none p
+acl-gives p (tree.bytes b ∷ []) h = gives-none p
+acl-gives p (tree.bytes b ∷ tree.number n ∷ ts) h = gives-none p
+acl-gives p (tree.bytes b ∷ tree.list us ∷ ts) h = gives-none p
+acl-gives p (tree.bytes b ∷ tree.named n v ∷ ts) h = gives-none p
+acl-gives p (tree.bytes b ∷ tree.bytes c ∷ []) h = gives-if p _ _ _ (gives-some p (GetAcl (uid_of b) (uid_of c)) (h (uid_of b) (uid_of c))) (gives-none p)
+acl-gives p (tree.bytes b ∷ tree.bytes c ∷ t ∷ ts) h = gives-none p
+
 other-gives : (profile : Profile) (method : Uid) (args : List Tree) → Gives (λ ask. is_own profile ask method) (other_ask_of profile method args)
 other-gives Base method args = gives-some (λ ask. is_own Base ask method) Other refl
 other-gives Field method args =
@@ -165,8 +194,10 @@ other-gives Field method args =
     by-test p (method.0 == revert_sp.0) _ _ (λ is. keep-gives p (options (keep_global_range_key_parameter ∷ []) args) (λ keep. is)) (λ no_revert. gives-some p Other refl))
 other-gives Opal method args =
     let p : Ask → Bool = λ ask. is_own Opal ask method in
+    by-test p (method.0 == next.0) _ _ (λ is. next-gives p (options (next_where_parameter ∷ next_count_parameter ∷ []) args) (λ after count. is)) (λ no_next.
+    by-test p (method.0 == get_acl.0) _ _ (λ is. acl-gives p args (λ about what. is)) (λ no_acl.
     by-test p (method.0 == gen_key.0) _ _ (λ is. nothing-gives p GenKey args is) (λ no_key.
-    by-test p (method.0 == revert_sp.0) _ _ (λ is. keep-gives p (options (keep_global_range_key_parameter ∷ []) args) (λ keep. is)) (λ no_revert. gives-some p Other refl))
+    by-test p (method.0 == revert_sp.0) _ _ (λ is. keep-gives p (options (keep_global_range_key_parameter ∷ []) args) (λ keep. is)) (λ no_revert. gives-some p Other refl))))
 
 asked-gives : (profile : Profile) (sp : Sp) (object method : Uid) (args : List Tree) → Gives (λ ask. is_own profile ask method) (ask_of profile sp object method args)
 asked-gives profile sp object method args =
@@ -205,34 +236,34 @@ same-method : (profile : Profile) (method wanted : Uid) (sp : Sp) (object : Uid)
 same-method profile method wanted sp object row is h = ap (λ (n : ℕ). acl_in (access_list profile) sp object (record { 0 = n })) (sym (eqb-true method.0 wanted.0 is)) ∙ h
 
 no_activate : (profile : Profile) → list_all (λ g. not (is_row_of Locking activate g) || false) (access_list profile) ≡ true
-unfolding this_sp_grants owner_grants label_grants removal_grants authority_grants fixed_ace_gets user_ace_grants range_get_ace_grants gen_key_ace_grants read_locked_ace_grants write_locked_ace_grants done_ace_grants pin_grants range_get_grants range_set_grants mbr_grants info_grants datastore_grants key_grants authorities_of_locking
+unfolding this_sp_grants owner_grants label_grants removal_grants authority_grants fixed_ace_gets user_ace_grants range_get_ace_grants gen_key_ace_grants read_locked_ace_grants write_locked_ace_grants done_ace_grants pin_grants range_get_grants range_set_grants mbr_grants info_grants datastore_grants key_grants own_grants listed_grants told_grants method_grants maker_grants name_grants mode_grants authorities_of_locking
 no_activate Base = refl
 no_activate Field = refl
 no_activate Opal = refl
 
 no_revert : (profile : Profile) → list_all (λ g. not (is_row_of Locking revert g) || false) (access_list profile) ≡ true
-unfolding this_sp_grants owner_grants label_grants removal_grants authority_grants fixed_ace_gets user_ace_grants range_get_ace_grants gen_key_ace_grants read_locked_ace_grants write_locked_ace_grants done_ace_grants pin_grants range_get_grants range_set_grants mbr_grants info_grants datastore_grants key_grants authorities_of_locking
+unfolding this_sp_grants owner_grants label_grants removal_grants authority_grants fixed_ace_gets user_ace_grants range_get_ace_grants gen_key_ace_grants read_locked_ace_grants write_locked_ace_grants done_ace_grants pin_grants range_get_grants range_set_grants mbr_grants info_grants datastore_grants key_grants own_grants listed_grants told_grants method_grants maker_grants name_grants mode_grants authorities_of_locking
 no_revert Base = refl
 no_revert Field = refl
 no_revert Opal = refl
 
 no_gen_key : (profile : Profile) → list_all (λ g. not (is_row_of Admin gen_key g) || false) (access_list profile) ≡ true
-unfolding this_sp_grants owner_grants label_grants removal_grants authority_grants fixed_ace_gets user_ace_grants range_get_ace_grants gen_key_ace_grants read_locked_ace_grants write_locked_ace_grants done_ace_grants pin_grants range_get_grants range_set_grants mbr_grants info_grants datastore_grants key_grants authorities_of_locking
+unfolding this_sp_grants owner_grants label_grants removal_grants authority_grants fixed_ace_gets user_ace_grants range_get_ace_grants gen_key_ace_grants read_locked_ace_grants write_locked_ace_grants done_ace_grants pin_grants range_get_grants range_set_grants mbr_grants info_grants datastore_grants key_grants own_grants listed_grants told_grants method_grants maker_grants name_grants mode_grants authorities_of_locking
 no_gen_key Base = refl
 no_gen_key Field = refl
 no_gen_key Opal = refl
 
 no_revert_sp : (profile : Profile) → list_all (λ g. not (is_row_of Admin revert_sp g) || false) (access_list profile) ≡ true
-unfolding this_sp_grants owner_grants label_grants removal_grants authority_grants fixed_ace_gets user_ace_grants range_get_ace_grants gen_key_ace_grants read_locked_ace_grants write_locked_ace_grants done_ace_grants pin_grants range_get_grants range_set_grants mbr_grants info_grants datastore_grants key_grants authorities_of_locking
+unfolding this_sp_grants owner_grants label_grants removal_grants authority_grants fixed_ace_gets user_ace_grants range_get_ace_grants gen_key_ace_grants read_locked_ace_grants write_locked_ace_grants done_ace_grants pin_grants range_get_grants range_set_grants mbr_grants info_grants datastore_grants key_grants own_grants listed_grants told_grants method_grants maker_grants name_grants mode_grants authorities_of_locking
 no_revert_sp Base = refl
 no_revert_sp Field = refl
 no_revert_sp Opal = refl
 
-only_three_rows : (profile : Profile) → list_all (λ g. not (is_row_of Admin set g) || is_set_in_admin g.object) (access_list profile) ≡ true
-unfolding this_sp_grants owner_grants label_grants removal_grants authority_grants fixed_ace_gets user_ace_grants range_get_ace_grants gen_key_ace_grants read_locked_ace_grants write_locked_ace_grants done_ace_grants pin_grants range_get_grants range_set_grants mbr_grants info_grants datastore_grants key_grants authorities_of_locking
-only_three_rows Base = refl
-only_three_rows Field = refl
-only_three_rows Opal = refl
+only_set_rows : (profile : Profile) → list_all (λ g. not (is_row_of Admin set g) || is_set_in_admin profile g.object) (access_list profile) ≡ true
+unfolding this_sp_grants owner_grants label_grants removal_grants authority_grants fixed_ace_gets user_ace_grants range_get_ace_grants gen_key_ace_grants read_locked_ace_grants write_locked_ace_grants done_ace_grants pin_grants range_get_grants range_set_grants mbr_grants info_grants datastore_grants key_grants own_grants listed_grants told_grants method_grants maker_grants name_grants mode_grants authorities_of_locking
+only_set_rows Base = refl
+only_set_rows Field = refl
+only_set_rows Opal = refl
 
 -- Activate and Revert are of the Admin SP; a Set there is of one of three rows
 pub activate-admin : (profile : Profile) (sp : Sp) (object method : Uid) (row : List Uid) → (method.0 == activate.0) ≡ true → acl_in (access_list profile) sp object method ≡ Some row → sp ≡ Admin
@@ -252,5 +283,5 @@ pub revert-sp-locking : (profile : Profile) (sp : Sp) (object method : Uid) (row
 revert-sp-locking profile Locking object method row is h = refl
 revert-sp-locking profile Admin object method row is h = let g : false ≡ true = rows-among (λ n. false) Admin object revert_sp (access_list profile) row (no_revert_sp profile) (same-method profile method revert_sp Admin object row is h) in cc
 
-pub set-in-admin : (profile : Profile) (object method : Uid) (row : List Uid) → (method.0 == set.0) ≡ true → acl_in (access_list profile) Admin object method ≡ Some row → is_set_in_admin object ≡ true
-set-in-admin profile object method row is h = rows-among (λ n. (n == c_pin_sid.0) || (n == tper_info.0) || (n == data_removal.0)) Admin object set (access_list profile) row (only_three_rows profile) (same-method profile method set Admin object row is h)
+pub set-in-admin : (profile : Profile) (object method : Uid) (row : List Uid) → (method.0 == set.0) ≡ true → acl_in (access_list profile) Admin object method ≡ Some row → is_set_in_admin profile object ≡ true
+set-in-admin profile object method row is h = rows-among (λ n. is_set_in_admin profile (uid n)) Admin object set (access_list profile) row (only_set_rows profile) (same-method profile method set Admin object row is h)

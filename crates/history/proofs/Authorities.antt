@@ -5,7 +5,7 @@ use Rattle.sp_cells.specs.declared.names.Uid.{Uid}
 use Rattle.sp_cells.specs.declared.names.Sp.{Sp}
 use Rattle.sp_cells.specs.declared.names.Column.{Column}
 use Rattle.sp_cells.specs.declared.cells.Cell.{Cell}
-use Rattle.sp_cells.specs.declared.cells.Cell.TheVariants.{Number, Bytes, Uid as Object, Numbers, Expr, Columns}
+use Rattle.sp_cells.specs.declared.cells.Cell.TheVariants.{Number, Bytes, Uid as Object, Numbers, Expr, Columns, OneName}
 use Rattle.sp_cells.specs.declared.cells.Element.{Element}
 use Rattle.sp_cells.specs.declared.cells.Element.TheVariants.{Authority, And, Or}
 use Rattle.std.proofs.Math.Path.{fun_ext}
@@ -13,7 +13,7 @@ use Rattle.std.specs.Prelude.{is_some, map, filter}
 use Rattle.std.specs.List.{flat_map}
 use Rattle.tcg_tokens.specs.Tree.{list, trees_of}
 use Rattle.tcg_calls.specs.declared.call_shapes.ask.Ask.{Ask}
-use Rattle.tcg_calls.specs.declared.call_shapes.ask.Ask.TheVariants.{GetCells, GetBytes, SetCells, SetBytes, Authenticate, Activate, Revert, GenKey, RevertSp, Other}
+use Rattle.tcg_calls.specs.declared.call_shapes.ask.Ask.TheVariants.{GetCells, GetBytes, SetCells, SetBytes, Authenticate, Activate, Revert, GenKey, RevertSp, Next, GetAcl, Other}
 use Rattle.std.specs.Option.{option_or}
 use Rattle.methods.specs.Kinds.{kind_of}
 use Rattle.methods.specs.Columns.{columns_of}
@@ -56,6 +56,7 @@ holds_in-alike held other h (Some (Bytes n)) = refl
 holds_in-alike held other h (Some (Object n)) = refl
 holds_in-alike held other h (Some (Numbers n)) = refl
 holds_in-alike held other h (Some (Columns n)) = refl
+holds_in-alike held other h (Some (OneName n)) = refl
 
 first-alike : (look : LookUp) (sp : Sp) (held other : List Uid) → SameHeld held other → (es : List Uid) → first_holding look sp other es ≡ first_holding look sp held es
 first-alike look sp held other h [] = refl
@@ -91,6 +92,8 @@ done-alike s other h object Activate = refl
 done-alike s other h object Revert = refl
 done-alike s other h object GenKey = refl
 done-alike s other h object (RevertSp keep) = refl
+done-alike s other h object (Next after count) = refl
+done-alike s other h object (GetAcl about what) = refl
 done-alike s other h object Other = refl
 
 pub judged-alike : (s : Standing) (other : List Uid) → SameHeld s.held other → (object method : Uid) (ask : Option Ask) → judged (with_held s other) object method ask ≡ judged s object method ask

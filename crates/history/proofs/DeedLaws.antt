@@ -13,7 +13,7 @@ use Rattle.sp_cells.specs.declared.names.Sp.TheVariants.{Admin, Locking}
 use Rattle.sp_cells.specs.declared.names.Column.{Column}
 use Rattle.sp_cells.specs.declared.cells.Cell.{Cell}
 use Rattle.sp_cells.specs.declared.error.SetError.{SetError}
-use Rattle.sp_cells.specs.Names.{set, activate, revert, gen_key, revert_sp, c_pin_sid, properties, start_session}
+use Rattle.sp_cells.specs.Names.{set, activate, revert, gen_key, revert_sp, c_pin_sid, properties, start_session, table_of}
 use Rattle.ace_eval.specs.Aces.{acl_at}
 use Rattle.audit.specs.declared.reason.AttemptFailure.{AttemptFailure}
 use Rattle.audit.specs.declared.reason.Why.{Why}
@@ -35,6 +35,8 @@ use Rattle.basics.specs.Profiles.{has_field}
 use Rattle.sp_cells.specs.Numbers.{key_number}
 use Rattle.methods.specs.Erasures.{is_wholly_locked}
 use Rattle.methods.specs.Kinds.{kind_of, byte_table_of}
+use Rattle.methods.specs.Tables.{rows_asked, uids_tree}
+use Rattle.sp_tables.specs.RowNames.{rows_of}
 use Rattle.methods.specs.Columns.{set_types_of}
 use Rattle.methods.specs.Settings.{cells_for, setting_of_cells, cells_of_ask, bytes_of_ask, setting}
 use Rattle.sessions.specs.Made.{is_within}
@@ -42,7 +44,7 @@ use Rattle.methods.specs.Said.{reply_of, refusal_of}
 use Rattle.tcg_calls.specs.Limits.{most_response}
 use Rattle.methods.specs.Effects.{has_ask, last_row, unless_fault, sp_of_row}
 use Rattle.sp_cells.specs.declared.values.ColumnType.{ColumnType}
-use Rattle.methods.specs.Judgement.{asked, Standing, Judgement, Refuses, Gives, Makes, Attempts, Activates, Reverts, Erases, RevertsSp, erases, reverts_sp, denial, gives, listing, bytes_between, rows_given, fault_by, valid, to_set, makes, unless_open, does_ask, does, unless_denied, judged, Denies}
+use Rattle.methods.specs.Judgement.{asked, Standing, Judgement, Refuses, Gives, Makes, Attempts, Activates, Reverts, Erases, RevertsSp, erases, reverts_sp, denial, gives, listing, bytes_between, rows_given, fault_by, valid, to_set, makes, unless_open, does_ask, does, unless_denied, judged, Denies, rows_told, acl_told}
 use Rattle.sessions.specs.declared.opening.Opening.{Opening}
 use Rattle.sessions.specs.declared.opening.StartVerdict.{StartVerdict}
 use Rattle.sessions.specs.declared.opening.StartVerdict.TheVariants.{Refused, Attempted}
@@ -51,7 +53,7 @@ use Rattle.sessions.specs.Starts.{opening_of, is_in_use, sp_named, is_full, open
 use Rattle.tcg_calls.specs.Named.{values_of}
 use Rattle.sp_cells.specs.Flat.{LookUp, sp_eq}
 use Rattle.tcg_calls.specs.declared.call_shapes.ask.Ask.{Ask}
-use Rattle.tcg_calls.specs.declared.call_shapes.ask.Ask.TheVariants.{GetCells, GetBytes, SetCells, SetBytes, Authenticate, Activate, Revert, GenKey, RevertSp, Other}
+use Rattle.tcg_calls.specs.declared.call_shapes.ask.Ask.TheVariants.{GetCells, GetBytes, SetCells, SetBytes, Authenticate, Activate, Revert, GenKey, RevertSp, Next, GetAcl, Other}
 use Rattle.history.specs.Events.{Deed, Nothing, InSession, OfQueue, Wrote, Took, BlockedSid, Chose, WasReset, Event}
 use Rattle.sp_tables.specs.Looks.{RowLook}
 use Rattle.history.specs.Changes.{with_tries}
@@ -89,6 +91,8 @@ ask_kind Activate = 4
 ask_kind Revert = 5
 ask_kind GenKey = 6
 ask_kind (RevertSp keep) = 7
+ask_kind (Next after count) = 1
+ask_kind (GetAcl about what) = 1
 ask_kind Other = 0
 
 zero-one : {k : ℕ} → 0 ≡ suc k → ⊥
@@ -126,6 +130,14 @@ reverts-kind : (b keep : Bool) (k : ℕ) → kind (cond b (Refuses 0x3f GlobalLo
 reverts-kind true keep k h = absurd (zero-one h)
 reverts-kind false keep k h = h
 
+told-kind : (x : Option (List Uid)) (k : ℕ) → kind (rows_told x) ≡ suc k → 1 ≡ suc k
+told-kind None k h = absurd (zero-one h)
+told-kind (Some rows) k h = gives-kind (uids_tree rows ∷ []) k h
+
+acl-kind : (x : Option (List Uid)) (k : ℕ) → kind (acl_told x) ≡ suc k → 1 ≡ suc k
+acl-kind None k h = absurd (zero-one h)
+acl-kind (Some acl) k h = gives-kind (uids_tree acl ∷ []) k h
+
 does-kind : (s : Standing) (object : Uid) (ask : Ask) (k : ℕ) → kind (does_ask s object ask) ≡ suc k → ask_kind ask ≡ suc k
 does-kind s object (GetCells first last) k h = gives-kind (listing s object first last) k h
 does-kind s object (GetBytes first last) k h = rows-kind (λ row. s.byte (table_begin s.sizes (byte_table_of (kind_of s.sp object)) + row)) (bytes_of_table s.sizes (byte_table_of (kind_of s.sp object))) first (last_row (bytes_of_table s.sizes (byte_table_of (kind_of s.sp object))) last) k h
@@ -136,6 +148,8 @@ does-kind s object Activate k h = (open-kind s.is_open Activates k h).0
 does-kind s object Revert k h = (open-kind s.is_open (Reverts (sp_of_row object)) k h).0
 does-kind s object GenKey k h = erases-kind (key_number object) k (open-kind s.is_open (erases (key_number object)) k h).0
 does-kind s object (RevertSp keep) k h = reverts-kind (keep && is_wholly_locked s.rows) keep k (open-kind s.is_open (reverts_sp s.rows keep) k h).0
+does-kind s object (Next after count) k h = told-kind (rows_asked after count (rows_of s.sp (table_of object))) k h
+does-kind s object (GetAcl about what) k h = acl-kind (acl_at s.profile s.sp about what) k h
 does-kind s object Other k h = absurd (zero-one h)
 
 -- a judgement that is no refusal: its ask is of the method, the method is offered, and it is what the ask comes to
@@ -174,6 +188,8 @@ activate-is profile (Authenticate a b) method own h = cc
 activate-is profile Revert method own h = cc
 activate-is profile GenKey method own h = cc
 activate-is profile (RevertSp keep) method own h = cc
+activate-is profile (Next after count) method own h = cc
+activate-is profile (GetAcl about what) method own h = cc
 activate-is profile Other method own h = cc
 
 revert-is : (profile : Profile) (ask : Ask) (method : Uid) → is_own profile ask method ≡ true → ask_kind ask ≡ 5 → (ask ≡ Revert) × ((method.0 == revert.0) ≡ true)
@@ -186,6 +202,8 @@ revert-is profile (Authenticate a b) method own h = cc
 revert-is profile Activate method own h = cc
 revert-is profile GenKey method own h = cc
 revert-is profile (RevertSp keep) method own h = cc
+revert-is profile (Next after count) method own h = cc
+revert-is profile (GetAcl about what) method own h = cc
 revert-is profile Other method own h = cc
 
 activates-outside : (s : Standing) (object method : Uid) → Granted s object method 3 Activates → (s.sp ≡ Admin) × (s.is_open ≡ false)
@@ -206,6 +224,8 @@ reverts-outside s object method sp g =
 gen-key-is : (profile : Profile) (ask : Ask) (method : Uid) → is_own profile ask method ≡ true → ask_kind ask ≡ 6 → (ask ≡ GenKey) × (has_field profile ≡ true) × ((method.0 == gen_key.0) ≡ true)
 gen-key-is profile GenKey method own h = let f = own-of-field profile gen_key method own in (refl, f.0, f.1)
 gen-key-is profile (RevertSp keep) method own h = cc
+gen-key-is profile (Next after count) method own h = cc
+gen-key-is profile (GetAcl about what) method own h = cc
 gen-key-is profile (GetCells a b) method own h = cc
 gen-key-is profile (GetBytes a b) method own h = cc
 gen-key-is profile (SetCells a) method own h = cc
@@ -285,6 +305,8 @@ asked-fit p sp sectors object fit types Activate set h = absurd (none-some h)
 asked-fit p sp sectors object fit types Revert set h = absurd (none-some h)
 asked-fit p sp sectors object fit types GenKey set h = absurd (none-some h)
 asked-fit p sp sectors object fit types (RevertSp keep) set h = absurd (none-some h)
+asked-fit p sp sectors object fit types (Next after count) set h = absurd (none-some h)
+asked-fit p sp sectors object fit types (GetAcl about what) set h = absurd (none-some h)
 asked-fit p sp sectors object fit types Other set h = absurd (none-some h)
 
 bytes-if : (p : Setting → Bool) (place : ℕ) (content : List ℕ) (b : Bool) (set : Setting) → (b ≡ true → p (bytes_set place content) ≡ true) → cond b (Some (bytes_set place content)) None ≡ Some set → p set ≡ true
@@ -302,24 +324,34 @@ bytes-fit p Locking sizes table object fit Activate set h = absurd (none-some h)
 bytes-fit p Locking sizes table object fit Revert set h = absurd (none-some h)
 bytes-fit p Locking sizes table object fit GenKey set h = absurd (none-some h)
 bytes-fit p Locking sizes table object fit (RevertSp keep) set h = absurd (none-some h)
+bytes-fit p Locking sizes table object fit (Next after count) set h = absurd (none-some h)
+bytes-fit p Locking sizes table object fit (GetAcl about what) set h = absurd (none-some h)
 bytes-fit p Locking sizes table object fit Other set h = absurd (none-some h)
 
-setting-fit : (p : Setting → Bool) (sp : Sp) (sizes : TableSizes) (object : Uid) → AreFit p sp (sectors_of sizes) object → (k : Option Kind) (ask : Ask) (set : Setting) → setting sp sizes object k ask ≡ Some set → p set ≡ true
-setting-fit p sp sizes object fit None ask set h = asked-fit p sp (sectors_of sizes) object fit [] ask set h
-setting-fit p sp sizes object fit (Some kinds.MbrTable) ask set h = bytes-fit p sp sizes ShadowMbr object fit ask set h
-setting-fit p sp sizes object fit (Some kinds.DataStore) ask set h = bytes-fit p sp sizes DataStore object fit ask set h
-setting-fit p sp sizes object fit (Some kinds.DataRemoval) ask set h = asked-fit p sp (sectors_of sizes) object fit (set_types_of (Some kinds.DataRemoval)) ask set h
-setting-fit p sp sizes object fit (Some kinds.ThisSp) ask set h = asked-fit p sp (sectors_of sizes) object fit [] ask set h
-setting-fit p sp sizes object fit (Some kinds.Sp) ask set h = asked-fit p sp (sectors_of sizes) object fit [] ask set h
-setting-fit p sp sizes object fit (Some kinds.Authority) ask set h = asked-fit p sp (sectors_of sizes) object fit (set_types_of (Some kinds.Authority)) ask set h
-setting-fit p sp sizes object fit (Some kinds.CPin) ask set h = asked-fit p sp (sectors_of sizes) object fit (set_types_of (Some kinds.CPin)) ask set h
-setting-fit p sp sizes object fit (Some kinds.Ace) ask set h = asked-fit p sp (sectors_of sizes) object fit (set_types_of (Some kinds.Ace)) ask set h
-setting-fit p sp sizes object fit (Some kinds.Locking) ask set h = asked-fit p sp (sectors_of sizes) object fit (set_types_of (Some kinds.Locking)) ask set h
-setting-fit p sp sizes object fit (Some kinds.MbrControl) ask set h = asked-fit p sp (sectors_of sizes) object fit (set_types_of (Some kinds.MbrControl)) ask set h
-setting-fit p sp sizes object fit (Some kinds.TperInfo) ask set h = asked-fit p sp (sectors_of sizes) object fit (set_types_of (Some kinds.TperInfo)) ask set h
-setting-fit p sp sizes object fit (Some kinds.LockingInfo) ask set h = asked-fit p sp (sectors_of sizes) object fit (set_types_of (Some kinds.LockingInfo)) ask set h
-setting-fit p sp sizes object fit (Some kinds.Table) ask set h = asked-fit p sp (sectors_of sizes) object fit (set_types_of (Some kinds.Table)) ask set h
-setting-fit p sp sizes object fit (Some kinds.Key) ask set h = asked-fit p sp (sectors_of sizes) object fit (set_types_of (Some kinds.Key)) ask set h
+setting-fit : (profile : Profile) (p : Setting → Bool) (sp : Sp) (sizes : TableSizes) (object : Uid) → AreFit p sp (sectors_of sizes) object → (k : Option Kind) (ask : Ask) (set : Setting) → setting profile sp sizes object k ask ≡ Some set → p set ≡ true
+setting-fit profile p sp sizes object fit None ask set h = asked-fit p sp (sectors_of sizes) object fit (set_types_of profile None) ask set h
+setting-fit profile p sp sizes object fit (Some kinds.MbrTable) ask set h = bytes-fit p sp sizes ShadowMbr object fit ask set h
+setting-fit profile p sp sizes object fit (Some kinds.DataStore) ask set h = bytes-fit p sp sizes DataStore object fit ask set h
+setting-fit profile p sp sizes object fit (Some kinds.DataRemoval) ask set h = asked-fit p sp (sectors_of sizes) object fit (set_types_of profile (Some kinds.DataRemoval)) ask set h
+setting-fit profile p sp sizes object fit (Some kinds.ThisSp) ask set h = asked-fit p sp (sectors_of sizes) object fit (set_types_of profile (Some kinds.ThisSp)) ask set h
+setting-fit profile p sp sizes object fit (Some kinds.Sp) ask set h = asked-fit p sp (sectors_of sizes) object fit (set_types_of profile (Some kinds.Sp)) ask set h
+setting-fit profile p sp sizes object fit (Some kinds.Authority) ask set h = asked-fit p sp (sectors_of sizes) object fit (set_types_of profile (Some kinds.Authority)) ask set h
+setting-fit profile p sp sizes object fit (Some kinds.CPin) ask set h = asked-fit p sp (sectors_of sizes) object fit (set_types_of profile (Some kinds.CPin)) ask set h
+setting-fit profile p sp sizes object fit (Some kinds.Ace) ask set h = asked-fit p sp (sectors_of sizes) object fit (set_types_of profile (Some kinds.Ace)) ask set h
+setting-fit profile p sp sizes object fit (Some kinds.Locking) ask set h = asked-fit p sp (sectors_of sizes) object fit (set_types_of profile (Some kinds.Locking)) ask set h
+setting-fit profile p sp sizes object fit (Some kinds.MbrControl) ask set h = asked-fit p sp (sectors_of sizes) object fit (set_types_of profile (Some kinds.MbrControl)) ask set h
+setting-fit profile p sp sizes object fit (Some kinds.TperInfo) ask set h = asked-fit p sp (sectors_of sizes) object fit (set_types_of profile (Some kinds.TperInfo)) ask set h
+setting-fit profile p sp sizes object fit (Some kinds.LockingInfo) ask set h = asked-fit p sp (sectors_of sizes) object fit (set_types_of profile (Some kinds.LockingInfo)) ask set h
+setting-fit profile p sp sizes object fit (Some kinds.Table) ask set h = asked-fit p sp (sectors_of sizes) object fit (set_types_of profile (Some kinds.Table)) ask set h
+setting-fit profile p sp sizes object fit (Some kinds.Key) ask set h = asked-fit p sp (sectors_of sizes) object fit (set_types_of profile (Some kinds.Key)) ask set h
+setting-fit profile p sp sizes object fit (Some kinds.WholeTable) ask set h = asked-fit p sp (sectors_of sizes) object fit (set_types_of profile (Some kinds.WholeTable)) ask set h
+setting-fit profile p sp sizes object fit (Some kinds.AccessControl) ask set h = asked-fit p sp (sectors_of sizes) object fit (set_types_of profile (Some kinds.AccessControl)) ask set h
+setting-fit profile p sp sizes object fit (Some kinds.ObjectTable) ask set h = asked-fit p sp (sectors_of sizes) object fit (set_types_of profile (Some kinds.ObjectTable)) ask set h
+setting-fit profile p sp sizes object fit (Some kinds.SpInfo) ask set h = asked-fit p sp (sectors_of sizes) object fit (set_types_of profile (Some kinds.SpInfo)) ask set h
+setting-fit profile p sp sizes object fit (Some kinds.SpTemplates) ask set h = asked-fit p sp (sectors_of sizes) object fit (set_types_of profile (Some kinds.SpTemplates)) ask set h
+setting-fit profile p sp sizes object fit (Some kinds.MethodId) ask set h = asked-fit p sp (sectors_of sizes) object fit (set_types_of profile (Some kinds.MethodId)) ask set h
+setting-fit profile p sp sizes object fit (Some kinds.SecretProtect) ask set h = asked-fit p sp (sectors_of sizes) object fit (set_types_of profile (Some kinds.SecretProtect)) ask set h
+setting-fit profile p sp sizes object fit (Some kinds.Template) ask set h = asked-fit p sp (sectors_of sizes) object fit (set_types_of profile (Some kinds.Template)) ask set h
 
 unfaulted : (fault : Option SetError) (set made : Setting) → unless_fault fault set ≡ Ok made → made ≡ set
 unfaulted None set made h = cc
@@ -335,9 +367,9 @@ makes-is (Ok set) made h = ap (λ (y : Setting). let r : Result Setting Rule = O
 
 makes-fit : (p : Setting → Bool) (s : Standing) (object : Uid) → AreFit p s.sp (sectors_of s.sizes) object → (ask : Ask) (made : Setting) → ask_kind ask ≡ 2 → does_ask s object ask ≡ Makes made → p made ≡ true
 makes-fit p s object fit (SetCells values) made k h =
-    valid-fit p s (setting s.sp s.sizes object (kind_of s.sp object) (SetCells values)) made (λ set is. setting-fit p s.sp s.sizes object fit (kind_of s.sp object) (SetCells values) set is) (makes-is (to_set s object (SetCells values)) made h)
+    valid-fit p s (setting s.profile s.sp s.sizes object (kind_of s.sp object) (SetCells values)) made (λ set is. setting-fit s.profile p s.sp s.sizes object fit (kind_of s.sp object) (SetCells values) set is) (makes-is (to_set s object (SetCells values)) made h)
 makes-fit p s object fit (SetBytes place content) made k h =
-    valid-fit p s (setting s.sp s.sizes object (kind_of s.sp object) (SetBytes place content)) made (λ set is. setting-fit p s.sp s.sizes object fit (kind_of s.sp object) (SetBytes place content) set is) (makes-is (to_set s object (SetBytes place content)) made h)
+    valid-fit p s (setting s.profile s.sp s.sizes object (kind_of s.sp object) (SetBytes place content)) made (λ set is. setting-fit s.profile p s.sp s.sizes object fit (kind_of s.sp object) (SetBytes place content) set is) (makes-is (to_set s object (SetBytes place content)) made h)
 makes-fit p s object fit (GetCells a b) c k h = cc
 makes-fit p s object fit (GetBytes a b) c k h = cc
 makes-fit p s object fit (Authenticate a b) c k h = cc
@@ -345,6 +377,8 @@ makes-fit p s object fit Activate c k h = cc
 makes-fit p s object fit Revert c k h = cc
 makes-fit p s object fit GenKey c k h = cc
 makes-fit p s object fit (RevertSp keep) c k h = cc
+makes-fit p s object fit (Next after count) c k h = cc
+makes-fit p s object fit (GetAcl about what) c k h = cc
 makes-fit p s object fit Other c k h = cc
 
 row-fit : (p : Uid → Bool) (s : Standing) (object : Uid) → p object ≡ true → AreFit (λ y. is_of_row p (Sets y)) s.sp (sectors_of s.sizes) object
@@ -373,12 +407,14 @@ set-is profile (Authenticate a b) method own h = cc
 set-is profile Revert method own h = cc
 set-is profile GenKey method own h = cc
 set-is profile (RevertSp keep) method own h = cc
+set-is profile (Next after count) method own h = cc
+set-is profile (GetAcl about what) method own h = cc
 set-is profile Other method own h = cc
 
-makes-one : (s : Standing) (object method : Uid) (c : Setting) → Granted s object method 1 (Makes c) → s.sp ≡ Admin → is_of_row is_set_in_admin (Sets c) ≡ true
+makes-one : (s : Standing) (object method : Uid) (c : Setting) → Granted s object method 1 (Makes c) → s.sp ≡ Admin → is_of_row (is_set_in_admin s.profile) (Sets c) ≡ true
 makes-one s object method c g admin =
-    makes-fit (λ y. is_of_row is_set_in_admin (Sets y)) s object
-    (row-fit is_set_in_admin s object (set-in-admin s.profile object method g.row (set-is s.profile g.ask method g.own g.kind) (ap (λ x. acl_at s.profile x object method) (sym admin) ∙ g.has)))
+    makes-fit (λ y. is_of_row (is_set_in_admin s.profile) (Sets y)) s object
+    (row-fit (is_set_in_admin s.profile) s object (set-in-admin s.profile object method g.row (set-is s.profile g.ask method g.own g.kind) (ap (λ x. acl_at s.profile x object method) (sym admin) ∙ g.has)))
     g.ask c g.kind g.does
 
 -- the live session of an SP is on it

@@ -25,7 +25,8 @@ use Rattle.locking.specs.declared.ranges.Verdict.{Verdict}
 use Rattle.locking.specs.declared.ranges.Verdict.TheVariants.{Serve, Shadow, Denied}
 use Rattle.sessions.specs.Attempts.{attempt_failure as failure_of}
 use Rattle.tcg_calls.specs.Asks.{uid_of}
-use Rattle.sp_cells.specs.Names.{properties, start_session}
+use Rattle.ace_eval.specs.Aces.{acl_at}
+use Rattle.sp_cells.specs.Names.{properties, start_session, table_of}
 use Rattle.sessions.specs.Deeds.{Begun, Setting, Unchanged, says, refuses as refuses_item}
 use Rattle.tcg_calls.specs.Statuses.{success, fail}
 use Rattle.sessions.specs.Properties.{properties_message}
@@ -39,12 +40,14 @@ use Rattle.methods.specs.Said.{reply_of, refusal_of}
 use Rattle.tcg_calls.specs.Limits.{most_response}
 use Rattle.sp_cells.specs.ByteTables.{bytes_of_table, table_begin}
 use Rattle.methods.specs.Kinds.{kind_of, byte_table_of}
+use Rattle.methods.specs.Tables.{rows_asked, uids_tree}
+use Rattle.sp_tables.specs.RowNames.{rows_of}
 use Rattle.methods.specs.Effects.{ask_at, last_row, sp_of_row}
 use Rattle.sp_cells.specs.Numbers.{key_number}
 use Rattle.methods.specs.Erasures.{is_wholly_locked}
-use Rattle.methods.specs.Judgement.{asked, Standing, Judgement, Refuses, Gives, Makes, Attempts, Activates, Reverts, Erases, RevertsSp, erases, reverts_sp, denial, gives, listing, bytes_between, rows_given, to_set, makes, unless_open, does_ask, does, unless_denied, judged, Denies}
+use Rattle.methods.specs.Judgement.{asked, Standing, Judgement, Refuses, Gives, Makes, Attempts, Activates, Reverts, Erases, RevertsSp, erases, reverts_sp, denial, gives, listing, bytes_between, rows_given, to_set, makes, unless_open, does_ask, does, unless_denied, judged, Denies, rows_told, acl_told}
 use Rattle.tcg_calls.specs.declared.call_shapes.ask.Ask.{Ask}
-use Rattle.tcg_calls.specs.declared.call_shapes.ask.Ask.TheVariants.{GetCells, GetBytes, SetCells, SetBytes, Authenticate, Activate, Revert, GenKey, RevertSp, Other}
+use Rattle.tcg_calls.specs.declared.call_shapes.ask.Ask.TheVariants.{GetCells, GetBytes, SetCells, SetBytes, Authenticate, Activate, Revert, GenKey, RevertSp, Next, GetAcl, Other}
 use Rattle.trusted_cmds.specs.BlockSid.{is_block_sid, block_asked, is_blocked}
 use Rattle.device_data.specs.Discovery.{has_owner}
 use Rattle.history.specs.Events.{Nothing, Wrote, Took, HeldCommand, Event, did, WasReset, BlockedSid, ignores}
@@ -158,6 +161,14 @@ erases-clean : (x : Option ℕ) → reason (erases x) ≡ None
 erases-clean None = refl
 erases-clean (Some range) = refl
 
+told-clean : (x : Option (List Uid)) → reason (rows_told x) ≡ None
+told-clean None = refl
+told-clean (Some rows) = gives-clean (uids_tree rows ∷ [])
+
+acl-clean : (x : Option (List Uid)) → reason (acl_told x) ≡ None
+acl-clean None = refl
+acl-clean (Some acl) = gives-clean (uids_tree acl ∷ [])
+
 done-clean : (s : Standing) (object : Uid) (ask : Ask) → reason (does_ask s object ask) ≡ None
 done-clean s object (GetCells a b) = gives-clean (listing s object a b)
 done-clean s object (GetBytes a b) = rows-clean (λ row. s.byte (table_begin s.sizes (byte_table_of (kind_of s.sp object)) + row)) (bytes_of_table s.sizes (byte_table_of (kind_of s.sp object))) a (last_row (bytes_of_table s.sizes (byte_table_of (kind_of s.sp object))) b)
@@ -168,6 +179,8 @@ done-clean s object Activate = open-clean s.is_open Activates refl
 done-clean s object Revert = open-clean s.is_open (Reverts (sp_of_row object)) refl
 done-clean s object GenKey = open-clean s.is_open (erases (key_number object)) (erases-clean (key_number object))
 done-clean s object (RevertSp keep) = open-clean s.is_open (reverts_sp s.rows keep) (clean-if (keep && is_wholly_locked s.rows) (Refuses 0x3f GlobalLocked) (RevertsSp keep) refl refl)
+done-clean s object (Next after count) = told-clean (rows_asked after count (rows_of s.sp (table_of object)))
+done-clean s object (GetAcl about what) = acl-clean (acl_at s.profile s.sp about what)
 done-clean s object Other = refl
 
 does-clean : (s : Standing) (object : Uid) (ask : Ask) → reason (does s object ask) ≡ None
@@ -202,6 +215,14 @@ own-rows d byte size first last =
     own-if d ((size == 0) || (nat_le size last || nat_lt last first)) (Refuses 0x0c OutsideTable) _ refl
     (own-if d (nat_lt most_response (last + 1 - first)) (Refuses 0x11 TooLong) (gives (bytes_between byte first last)) refl (own-gives d (bytes_between byte first last)))
 
+own-told : (d : SidBlock) (x : Option (List Uid)) → block-of d (rows_told x) ≡ d
+own-told d None = refl
+own-told d (Some rows) = own-gives d (uids_tree rows ∷ [])
+
+own-acl : (d : SidBlock) (x : Option (List Uid)) → block-of d (acl_told x) ≡ d
+own-acl d None = refl
+own-acl d (Some acl) = own-gives d (uids_tree acl ∷ [])
+
 own-done : (s : Standing) (object : Uid) (ask : Ask) → block-of s.block (does_ask s object ask) ≡ s.block
 own-done s object (GetCells a b) = own-gives s.block (listing s object a b)
 own-done s object (GetBytes a b) = own-rows s.block (λ row. s.byte (table_begin s.sizes (byte_table_of (kind_of s.sp object)) + row)) (bytes_of_table s.sizes (byte_table_of (kind_of s.sp object))) a (last_row (bytes_of_table s.sizes (byte_table_of (kind_of s.sp object))) b)
@@ -212,6 +233,8 @@ own-done s object Activate = own-open s.block s.is_open Activates refl
 own-done s object Revert = own-open s.block s.is_open (Reverts (sp_of_row object)) refl
 own-done s object GenKey = own-open s.block s.is_open (erases (key_number object)) (own-erases s.block (key_number object))
 own-done s object (RevertSp keep) = own-open s.block s.is_open (reverts_sp s.rows keep) (own-if s.block (keep && is_wholly_locked s.rows) (Refuses 0x3f GlobalLocked) (RevertsSp keep) refl refl)
+own-done s object (Next after count) = own-told s.block (rows_asked after count (rows_of s.sp (table_of object)))
+own-done s object (GetAcl about what) = own-acl s.block (acl_at s.profile s.sp about what)
 own-done s object Other = refl
 
 own-denied : (s : Standing) (d : Option Why) (j : Judgement) → block-of s.block j ≡ s.block → block-of s.block (unless_denied d j) ≡ s.block

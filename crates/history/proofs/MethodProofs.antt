@@ -25,7 +25,7 @@ use Rattle.tcg_tokens.specs.Tree.{Tree}
 use Rattle.trusted_cmds.specs.declared.command.Command.{Command}
 use Rattle.trusted_cmds.specs.declared.command.Command.TheVariants.{Send}
 use Rattle.tcg_calls.specs.declared.call_shapes.ask.Ask.{Ask}
-use Rattle.tcg_calls.specs.declared.call_shapes.ask.Ask.TheVariants.{GetCells, GetBytes, SetCells, SetBytes, Authenticate, Activate, Revert, GenKey, RevertSp, Other}
+use Rattle.tcg_calls.specs.declared.call_shapes.ask.Ask.TheVariants.{GetCells, GetBytes, SetCells, SetBytes, Authenticate, Activate, Revert, GenKey, RevertSp, Next, GetAcl, Other}
 use Rattle.std.specs.Option.{option_or}
 use Rattle.methods.specs.Grants.{why_denied, unless_allowed, denial as denial_of, wanted, first_some}
 use Rattle.methods.specs.Laws.{EachHasAce, IsGranted, takes_effect}
@@ -82,6 +82,8 @@ granted-row s object method Activate h = first-row s object method (None ∷ [])
 granted-row s object method Revert h = first-row s object method (None ∷ []) None [] refl h
 granted-row s object method GenKey h = first-row s object method (None ∷ []) None [] refl h
 granted-row s object method (RevertSp keep) h = first-row s object method (None ∷ []) None [] refl h
+granted-row s object method (Next after count) h = first-row s object method (None ∷ []) None [] refl h
+granted-row s object method (GetAcl about what) h = first-row s object method (None ∷ []) None [] refl h
 granted-row s object method Other h = first-row s object method (None ∷ []) None [] refl h
 
 -- what is looked at

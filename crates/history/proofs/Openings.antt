@@ -11,7 +11,7 @@ use Rattle.sp_cells.specs.declared.names.Sp.{Sp}
 use Rattle.sp_cells.specs.declared.names.Sp.TheVariants.{Admin, Locking}
 use Rattle.sp_cells.specs.declared.names.Column.{Column}
 use Rattle.sp_cells.specs.declared.cells.Cell.{Cell}
-use Rattle.sp_cells.specs.declared.cells.Cell.TheVariants.{Number, Bytes, Uid as Object, Numbers, Expr, Columns}
+use Rattle.sp_cells.specs.declared.cells.Cell.TheVariants.{Number, Bytes, Uid as Object, Numbers, Expr, Columns, OneName}
 use Rattle.sp_cells.specs.declared.error.SetError.{SetError}
 use Rattle.sp_cells.specs.Config.{Config, sizes_in}
 use Rattle.sp_cells.specs.declared.byte_tables.TableSizes.{TableSizes}
@@ -47,6 +47,7 @@ zero-is (Object u) h = cc
 zero-is (Numbers r) h = cc
 zero-is (Expr es) h = cc
 zero-is (Columns cs) h = cc
+zero-is (OneName b) h = cc
 
 clean-value : (b : Bool) (value : Cell) → b ≡ true → (not b || is_zero value) ≡ true → value ≡ Number 0
 clean-value true value h g = zero-is value g

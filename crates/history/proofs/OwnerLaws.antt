@@ -2,12 +2,14 @@
 use Rattle.std.proofs.Common.{◌≡◌, ℕ, ◌+◌, ◌==◌, Bool, true, false, ◌&&◌, List, [], ◌∷◌, ◌++◌, Option, Some, None, refl, sym, ◌∙◌, ap, cond, ◌⊎◌, inl, inr, eqb-true, eq-eqb, ◌||◌}
 use Rattle.std.specs.Prelude.{unwrap_or, option_map, option_to_list}
 use Rattle.std.specs.List.{list_all}
+use Rattle.basics.specs.declared.profile.Profile.{Profile}
+use Rattle.basics.specs.declared.profile.Profile.TheVariants.{Base, Field, Opal}
 use Rattle.sp_cells.specs.declared.names.Uid.{Uid}
 use Rattle.sp_cells.specs.declared.names.Sp.{Sp}
 use Rattle.sp_cells.specs.declared.names.Sp.TheVariants.{Admin, Locking}
 use Rattle.sp_cells.specs.declared.names.Column.{Column}
 use Rattle.sp_cells.specs.declared.cells.Cell.{Cell}
-use Rattle.sp_cells.specs.Names.{c_pin_sid, tper_info, data_removal, locking_sp, mbr_control}
+use Rattle.sp_cells.specs.Names.{c_pin_sid, tper_info, data_removal, makers_class, admin_sp_admin, c_pin_admin_sp_admin, locking_sp, mbr_control}
 use Rattle.sp_cells.specs.declared.cells.Cell.TheVariants.{Number}
 use Rattle.sp_cells.specs.Flat.{sp_eq}
 use Rattle.sp_cells.specs.Ranges.{cell_number}
@@ -24,7 +26,7 @@ use Rattle.sessions.specs.Starts.{is_in_use}
 use Rattle.history.specs.Events.{Response, Deed, Nothing, InSession, OfQueue, Wrote, Took, BlockedSid, Chose, WasReset, Event}
 use Rattle.history.specs.Readers.{restores, living, session_on, open_on, is_of, in_force, turns, begins, changes_on, own_changes, if_open, open_changes, only_on, unless_any_open, brought, changes, factory_rows}
 use Rattle.history.specs.History.{Act, event, log}
-use Rattle.history.specs.Deeds.{IsNew, is_set_in_admin, is_of_row, Begins, Changes, IsOutside, IsRevert, IsRevertSp, CanDo, OwnerLaw, LifeLaw, ActivateLaw, RevertLaw}
+use Rattle.history.specs.Deeds.{IsNew, is_set_on_each, is_set_on_opal, is_set_in_admin, is_of_row, Begins, Changes, IsOutside, IsRevert, IsRevertSp, CanDo, OwnerLaw, LifeLaw, ActivateLaw, RevertLaw}
 use Rattle.history.proofs.Words.{latest-here, latest-skip, sp-is}
 use Rattle.history.proofs.Emptied.{every-since-more, closed}
 use Rattle.history.proofs.DeedLaws.{deed_law}
@@ -143,16 +145,25 @@ begun-is sp (Chose feature) s h = cc
 
 -- it leaves the state of the Locking SP
 abbrev spares : Change → Bool
-spares (Sets (cells_set object cells)) = is_set_in_admin object
+spares (Sets (cells_set object cells)) = is_set_in_admin Opal object
 spares (Sets (bytes_set place bytes)) = true
 spares (Resets kind) = true
 spares Restores = false
 
-row-spares : (c : Change) → is_of_row is_set_in_admin c ≡ true → spares c ≡ true
-row-spares (Sets (cells_set object cells)) h = h
-row-spares (Sets (bytes_set place bytes)) h = refl
-row-spares (Resets kind) h = refl
-row-spares Restores h = h
+or-left : (a b : Bool) → a ≡ true → (a || b) ≡ true
+or-left true b h = refl
+or-left false b h = cc
+
+on-any : (profile : Profile) (object : Uid) → is_set_in_admin profile object ≡ true → is_set_in_admin Opal object ≡ true
+on-any Base object h = or-left (is_set_on_each object) (is_set_on_opal object) h
+on-any Field object h = or-left (is_set_on_each object) (is_set_on_opal object) h
+on-any Opal object h = h
+
+row-spares : (profile : Profile) (c : Change) → is_of_row (is_set_in_admin profile) c ≡ true → spares c ≡ true
+row-spares profile (Sets (cells_set object cells)) h = on-any profile object h
+row-spares profile (Sets (bytes_set place bytes)) h = refl
+row-spares profile (Resets kind) h = refl
+row-spares profile Restores h = h
 
 -- a Set on an SP
 pub changed-is : (sp : Sp) (d : Deed) (c : Change) → changes_on sp d ≡ Some c → (r : Response) × (d ≡ InSession (Changed sp c) r)
@@ -231,23 +242,29 @@ own-kept o e es can k = by_begin (begins Admin e.deed) refl
     by_change (Some c) is =
         let d = changed-is Admin e.deed c is in
         let set : Changes o es Admin c = can (Changed Admin c) d.0 d.1 in
-        ap (λ b. b && list_all spares (own_changes es Admin)) (row-spares c (set.row refl)) ∙ k.own
+        ap (λ b. b && list_all spares (own_changes es Admin)) (row-spares o.tables.config.profile c (set.row refl)) ∙ k.own
 
     by_begin : (b : Bool) → begins Admin e.deed ≡ b → list_all spares (own_changes (e ∷ es) Admin) ≡ true
     by_begin true is = ap (list_all spares) (every-since-more (changes_on Admin) (begins Admin) e es true is)
     by_begin false is = ap (list_all spares) (every-since-more (changes_on Admin) (begins Admin) e es false is) ∙ by_change (changes_on Admin e.deed) refl
 
 -- changes that spare the state of the Locking SP leave it
-put-spares : (object : Uid) (c : Column) (v : Cell) (rows : RowLook) → is_set_in_admin object ≡ true → put_in object c v rows locking_sp life_cycle_state_column ≡ rows locking_sp life_cycle_state_column
-put-spares object c v rows h = by (object.0 == c_pin_sid.0) (object.0 == tper_info.0) (object.0 == data_removal.0) refl refl refl h
+put-spares : (object : Uid) (c : Column) (v : Cell) (rows : RowLook) → is_set_in_admin Opal object ≡ true → put_in object c v rows locking_sp life_cycle_state_column ≡ rows locking_sp life_cycle_state_column
+put-spares object c v rows h = by_each (object.0 == c_pin_sid.0) (object.0 == tper_info.0) (object.0 == data_removal.0) refl refl refl h
   where
-    by : (a b d : Bool) → (object.0 == c_pin_sid.0) ≡ a → (object.0 == tper_info.0) ≡ b → (object.0 == data_removal.0) ≡ d → (a || b || d) ≡ true → put_in object c v rows locking_sp life_cycle_state_column ≡ rows locking_sp life_cycle_state_column
-    by true b d is other last g = ap (λ (n : ℕ). put_in (record { 0 = n }) c v rows locking_sp life_cycle_state_column) (eqb-true object.0 c_pin_sid.0 is)
-    by false true d is other last g = ap (λ (n : ℕ). put_in (record { 0 = n }) c v rows locking_sp life_cycle_state_column) (eqb-true object.0 tper_info.0 other)
-    by false false true is other last g = ap (λ (n : ℕ). put_in (record { 0 = n }) c v rows locking_sp life_cycle_state_column) (eqb-true object.0 data_removal.0 last)
-    by false false false is other last g = cc
+    by_opal : (a b d : Bool) → (object.0 == makers_class.0) ≡ a → (object.0 == admin_sp_admin.0) ≡ b → (object.0 == c_pin_admin_sp_admin.0) ≡ d → (a || b || d) ≡ true → put_in object c v rows locking_sp life_cycle_state_column ≡ rows locking_sp life_cycle_state_column
+    by_opal true b d is other last g = ap (λ (n : ℕ). put_in (record { 0 = n }) c v rows locking_sp life_cycle_state_column) (eqb-true object.0 makers_class.0 is)
+    by_opal false true d is other last g = ap (λ (n : ℕ). put_in (record { 0 = n }) c v rows locking_sp life_cycle_state_column) (eqb-true object.0 admin_sp_admin.0 other)
+    by_opal false false true is other last g = ap (λ (n : ℕ). put_in (record { 0 = n }) c v rows locking_sp life_cycle_state_column) (eqb-true object.0 c_pin_admin_sp_admin.0 last)
+    by_opal false false false is other last g = cc
 
-puts-spare : (object : Uid) (cells : List (Column × Cell)) (rows : RowLook) → is_set_in_admin object ≡ true → puts_in object cells rows locking_sp life_cycle_state_column ≡ rows locking_sp life_cycle_state_column
+    by_each : (a b d : Bool) → (object.0 == c_pin_sid.0) ≡ a → (object.0 == tper_info.0) ≡ b → (object.0 == data_removal.0) ≡ d → ((a || b || d) || is_set_on_opal object) ≡ true → put_in object c v rows locking_sp life_cycle_state_column ≡ rows locking_sp life_cycle_state_column
+    by_each true b d is other last g = ap (λ (n : ℕ). put_in (record { 0 = n }) c v rows locking_sp life_cycle_state_column) (eqb-true object.0 c_pin_sid.0 is)
+    by_each false true d is other last g = ap (λ (n : ℕ). put_in (record { 0 = n }) c v rows locking_sp life_cycle_state_column) (eqb-true object.0 tper_info.0 other)
+    by_each false false true is other last g = ap (λ (n : ℕ). put_in (record { 0 = n }) c v rows locking_sp life_cycle_state_column) (eqb-true object.0 data_removal.0 last)
+    by_each false false false is other last g = by_opal (object.0 == makers_class.0) (object.0 == admin_sp_admin.0) (object.0 == c_pin_admin_sp_admin.0) refl refl refl g
+
+puts-spare : (object : Uid) (cells : List (Column × Cell)) (rows : RowLook) → is_set_in_admin Opal object ≡ true → puts_in object cells rows locking_sp life_cycle_state_column ≡ rows locking_sp life_cycle_state_column
 puts-spare object [] rows h = refl
 puts-spare object (p ∷ ps) rows h = puts-spare object ps (put_in object p.0 p.1 rows) h ∙ put-spares object p.0 p.1 rows h
 
@@ -301,7 +318,7 @@ is_activation _ = false
 brought-spare : (o : Origin) (es : List Event) (d : Deed) → ((x : SessionDeed) (r : Response) → d ≡ InSession x r → CanDo o es x) → list_all spares (own_changes es Admin) ≡ true → is_activation d ≡ false → list_all spares (brought es Admin d) ≡ true
 brought-spare o es (InSession (Changed t c) r) can own h =
     let set : Changes o es t c = can (Changed t c) r refl in
-    only-spare t (unless_any_open (open_on es Admin) c) (λ admin. set-spare (open_on es Admin) c (row-spares c (set.row admin)))
+    only-spare t (unless_any_open (open_on es Admin) c) (λ admin. set-spare (open_on es Admin) c (row-spares o.tables.config.profile c (set.row admin)))
 brought-spare o es (InSession (Committed t) r) can own h = only-spare t (open_changes es Admin) (λ admin. open-spare (open_on es Admin) (own_changes es Admin) own)
 brought-spare o es (InSession Unchanged r) can own h = refl
 brought-spare o es (InSession (Started session row) r) can own h = refl

@@ -4,9 +4,11 @@ use Rattle.std.specs.Prelude.{◌≡◌, ◌⊎◌, ◌==◌, ◌||◌, ℕ, Boo
 use Rattle.sp_cells.specs.declared.names.Sp.{Sp}
 use Rattle.sp_cells.specs.declared.names.Sp.TheVariants.{Admin, Locking}
 use Rattle.sp_cells.specs.Config.{table_sectors}
-use Rattle.sp_cells.specs.Names.{c_pin_sid, tper_info, data_removal}
+use Rattle.sp_cells.specs.Names.{c_pin_sid, tper_info, data_removal, makers_class, admin_sp_admin, c_pin_admin_sp_admin}
 use Rattle.sp_cells.specs.declared.names.Uid.{Uid}
 use Rattle.sp_cells.specs.declared.cells.Cell.{Cell}
+use Rattle.basics.specs.declared.profile.Profile.{Profile}
+use Rattle.basics.specs.declared.profile.Profile.TheVariants.{Base, Field, Opal}
 use Rattle.basics.specs.Profiles.{has_field}
 use Rattle.shadow_mbr.specs.declared.erasure.Erasure.{Erasure}
 use Rattle.methods.specs.Erasures.{erased_by_revert, erased_by_key, erased_by_revert_sp, is_wholly_locked}
@@ -68,10 +70,21 @@ pub record IsNewKey (o : Origin) (past : List Event) (erasure : Erasure) : Type 
   pub range : ℕ
   pub erases : erasure ≡ erased_by_key (in_force o past) range
 
--- The objects of the Admin SP that a Set changes: SID's PIN, what lets a command reset the drive, and how it removes data.
-abbrev pub is_set_in_admin : Uid → Bool
-is_set_in_admin object =
+-- The objects of the Admin SP that a Set changes: SID's PIN, what lets a command reset the drive, and how it removes data;
+-- under the profile `Opal` the class Makers, Admin1 and its PIN, too.
+abbrev pub is_set_on_each : Uid → Bool
+is_set_on_each object =
     object.0 == c_pin_sid.0 || object.0 == tper_info.0 || object.0 == data_removal.0
+
+abbrev pub is_set_on_opal : Uid → Bool
+is_set_on_opal object =
+    object.0 == makers_class.0 || object.0 == admin_sp_admin.0
+    || object.0 == c_pin_admin_sp_admin.0
+
+abbrev pub is_set_in_admin : Profile → Uid → Bool
+is_set_in_admin Base object = is_set_on_each object
+is_set_in_admin Field object = is_set_on_each object
+is_set_in_admin Opal object = is_set_on_each object || is_set_on_opal object
 
 -- It sets cells of an object that passes, or bytes.
 abbrev pub is_of_row : (Uid → Bool) → Change → Bool
@@ -93,7 +106,7 @@ is_inside sectors sp (Resets kind) = true
 pub record Changes (o : Origin) (past : List Event) (sp : Sp) (change : Change) : Type 0 where
   pub session : Begun
   pub lives : IsIn past sp session
-  pub row : sp ≡ Admin → is_of_row is_set_in_admin change ≡ true
+  pub row : sp ≡ Admin → is_of_row (is_set_in_admin o.tables.config.profile) change ≡ true
   pub inside : is_inside (table_sectors o.tables.config) sp change ≡ true
 
 abbrev pub CanDo : Origin → List Event → SessionDeed → Type 0

@@ -9,7 +9,7 @@ use Rattle.audit.specs.declared.rules.rule.Rule.TheVariants.{OutsideTable, TooLo
 use Rattle.tcg_calls.specs.Limits.{most_response}
 use Rattle.tcg_calls.specs.Statuses.{invalid_parameter, response_overflow}
 use Rattle.tcg_calls.specs.declared.call_shapes.ask.Ask.{Ask}
-use Rattle.tcg_calls.specs.declared.call_shapes.ask.Ask.TheVariants.{GetCells, GetBytes, SetCells, SetBytes, Authenticate, Activate, Revert, GenKey, RevertSp, Other}
+use Rattle.tcg_calls.specs.declared.call_shapes.ask.Ask.TheVariants.{GetCells, GetBytes, SetCells, SetBytes, Authenticate, Activate, Revert, GenKey, RevertSp, Next, GetAcl, Other}
 use Rattle.tcg_tokens.specs.Tree.{Tree}
 use Rattle.tcg_tokens.specs.Message.{message}
 use Rattle.transactions.specs.declared.change.SessionId.{SessionId}
@@ -104,6 +104,8 @@ set-is its object Activate h = cc
 set-is its object Revert h = cc
 set-is its object GenKey h = cc
 set-is its object (RevertSp keep) h = cc
+set-is its object (Next after count) h = cc
+set-is its object (GetAcl about what) h = cc
 set-is its object Other h = cc
 
 pub activate-is : (ask : Ask) → handles handlers.Activate ask ≡ true → ask ≡ Activate
@@ -116,6 +118,8 @@ activate-is (Authenticate a b) h = cc
 activate-is Revert h = cc
 activate-is GenKey h = cc
 activate-is (RevertSp keep) h = cc
+activate-is (Next after count) h = cc
+activate-is (GetAcl about what) h = cc
 activate-is Other h = cc
 
 pub gen-key-is : (ask : Ask) → handles handlers.GenKey ask ≡ true → ask ≡ GenKey
@@ -128,4 +132,6 @@ gen-key-is (Authenticate a b) h = cc
 gen-key-is Activate h = cc
 gen-key-is Revert h = cc
 gen-key-is (RevertSp keep) h = cc
+gen-key-is (Next after count) h = cc
+gen-key-is (GetAcl about what) h = cc
 gen-key-is Other h = cc

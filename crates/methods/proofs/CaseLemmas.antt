@@ -2,7 +2,7 @@
 use Rattle.std.proofs.Common.{◌≡◌, ◌==◌, ◌&&◌, ◌||◌, ◌-◌, ◌^◌, ℕ, Bool, true, false, List, [], ◌∷◌, Option, None, Some, is_some, option_map, refl, ap, sym, subst, ◌∙◌, if◌then◌else◌, inl, inr}
 use Rattle.basics.specs.declared.profile.Profile.{Profile}
 use Rattle.basics.specs.declared.profile.Profile.TheVariants.{Base, Field, Opal}
-use Rattle.sp_cells.specs.Names.{uid, none, col, get, set, authenticate, activate, revert, gen_key, revert_sp}
+use Rattle.sp_cells.specs.Names.{uid, none, col, get, set, authenticate, activate, revert, gen_key, revert_sp, next, get_acl}
 use Rattle.std.specs.List.{list_all, list_any}
 use Rattle.std.proofs.lemmas.Bool.Decides.{eqb_tells}
 use Rattle.sp_cells.specs.declared.names.Uid.{Uid}
@@ -16,13 +16,13 @@ use Rattle.sp_cells.specs.declared.byte_tables.TableSizes.{TableSizes}
 use Rattle.sp_cells.specs.Flat.{sp_eq}
 use Rattle.sp_tables.specs.Items.{Item, is_here, item_at}
 use Rattle.sp_tables.specs.Factory.{admin_factory, locking_factory, admin_sps, admin_authorities, label_authorities, locking_authorities, admin_pins, label_pins, locking_pins, locking_ranges, locking_mbr_controls, admin_aces, label_aces, removal_aces, data_removals, authority_aces, pin_aces, range_get_aces, range_aces, mbr_aces, gen_key_aces, range_keys, locking_infos, byte_tables, datastore_aces}
-use Rattle.ace_eval.specs.Access.{Grant, acl_in, this_sp_grants, owner_grants, label_grants, removal_grants, authority_grants, fixed_ace_gets, user_ace_grants, range_get_ace_grants, gen_key_ace_grants, read_locked_ace_grants, write_locked_ace_grants, done_ace_grants, pin_grants, range_get_grants, range_set_grants, mbr_grants, info_grants, datastore_grants, key_grants, access_list}
+use Rattle.ace_eval.specs.Access.{Grant, acl_in, this_sp_grants, owner_grants, label_grants, removal_grants, authority_grants, fixed_ace_gets, user_ace_grants, range_get_ace_grants, gen_key_ace_grants, read_locked_ace_grants, write_locked_ace_grants, done_ace_grants, pin_grants, range_get_grants, range_set_grants, mbr_grants, info_grants, datastore_grants, key_grants, access_list, own_grants, listed_grants, told_grants, method_grants, maker_grants, name_grants, mode_grants}
 use Rattle.tcg_tokens.specs.Tree.{Tree, number, bytes, list, named}
 use Rattle.tcg_calls.specs.declared.call_shapes.ask.Ask.{Ask}
-use Rattle.tcg_calls.specs.declared.call_shapes.ask.Ask.TheVariants.{GetCells, GetBytes, SetCells, SetBytes, Authenticate, Activate, Revert, GenKey, RevertSp, Other}
+use Rattle.tcg_calls.specs.declared.call_shapes.ask.Ask.TheVariants.{GetCells, GetBytes, SetCells, SetBytes, Authenticate, Activate, Revert, GenKey, RevertSp, Next, GetAcl, Other}
 use Rattle.tcg_calls.specs.Named.{list_in, value_of, options, number_or, number_if_any, bytes_or_empty, assignments}
-use Rattle.tcg_calls.specs.Parameters.{start_row_parameter, end_row_parameter, start_column_parameter, end_column_parameter, where_parameter, values_parameter, proof_parameter, keep_global_range_key_parameter}
-use Rattle.tcg_calls.specs.Asks.{uid_of, is_byte_table, cellblock, columns_between, columns_asked_in, is_ordered, rows_between, rows_in, cells_of, cells_to_set, cells_in, bytes_to_set, bytes_in, proof_of, proof_in, attempt_in, without_arguments, get_of, set_of, keep_of, keep_in, other_ask_of, ask_of}
+use Rattle.tcg_calls.specs.Parameters.{start_row_parameter, end_row_parameter, start_column_parameter, end_column_parameter, where_parameter, values_parameter, next_where_parameter, next_count_parameter, proof_parameter, keep_global_range_key_parameter}
+use Rattle.tcg_calls.specs.Asks.{uid_of, is_byte_table, cellblock, columns_between, columns_asked_in, is_ordered, rows_between, rows_in, cells_of, cells_to_set, cells_in, bytes_to_set, bytes_in, proof_of, proof_in, attempt_in, without_arguments, get_of, set_of, keep_of, keep_in, row_if_any, rows_behind, next_in, get_acl_of, other_ask_of, ask_of}
 use Rattle.methods.specs.declared.kinds.Kind.{Kind}
 use Rattle.methods.specs.declared.kinds.Kind.TheVariants as kinds
 use Rattle.methods.specs.Kinds.{kind_of}
@@ -46,6 +46,8 @@ sketch Activate = Activate
 sketch Revert = Revert
 sketch GenKey = GenKey
 sketch (RevertSp keep) = RevertSp false
+sketch (Next after count) = Next None None
+sketch (GetAcl about what) = GetAcl some_uid some_uid
 sketch Other = Other
 
 abbrev sketch_of_other : Profile → Uid → Ask
@@ -55,6 +57,8 @@ sketch_of_other Field method =
     if method.0 == revert_sp.0 then RevertSp false else
     Other
 sketch_of_other Opal method =
+    if method.0 == next.0 then Next None None else
+    if method.0 == get_acl.0 then GetAcl some_uid some_uid else
     if method.0 == gen_key.0 then GenKey else
     if method.0 == revert_sp.0 then RevertSp false else
     Other
@@ -71,15 +75,17 @@ sketch_of profile sp object method =
 -- a kind has what is asked by its shape
 same_shape : (kind : Option Kind) (ask : Ask) → has_ask kind ask ≡ has_ask kind (sketch ask)
 same_shape None ask = refl
-same_shape (Some kinds.ThisSp) (Authenticate a p) = refl
 same_shape (Some kinds.ThisSp) (GetCells f l) = refl
 same_shape (Some kinds.ThisSp) (GetBytes f l) = refl
 same_shape (Some kinds.ThisSp) (SetCells ps) = refl
 same_shape (Some kinds.ThisSp) (SetBytes a b) = refl
+same_shape (Some kinds.ThisSp) (Authenticate a p) = refl
 same_shape (Some kinds.ThisSp) Activate = refl
 same_shape (Some kinds.ThisSp) Revert = refl
 same_shape (Some kinds.ThisSp) GenKey = refl
 same_shape (Some kinds.ThisSp) (RevertSp keep) = refl
+same_shape (Some kinds.ThisSp) (Next after count) = refl
+same_shape (Some kinds.ThisSp) (GetAcl about what) = refl
 same_shape (Some kinds.ThisSp) Other = refl
 same_shape (Some kinds.Sp) (GetCells f l) = refl
 same_shape (Some kinds.Sp) (GetBytes f l) = refl
@@ -90,6 +96,8 @@ same_shape (Some kinds.Sp) Activate = refl
 same_shape (Some kinds.Sp) Revert = refl
 same_shape (Some kinds.Sp) GenKey = refl
 same_shape (Some kinds.Sp) (RevertSp keep) = refl
+same_shape (Some kinds.Sp) (Next after count) = refl
+same_shape (Some kinds.Sp) (GetAcl about what) = refl
 same_shape (Some kinds.Sp) Other = refl
 same_shape (Some kinds.Authority) (GetCells f l) = refl
 same_shape (Some kinds.Authority) (GetBytes f l) = refl
@@ -100,6 +108,8 @@ same_shape (Some kinds.Authority) Activate = refl
 same_shape (Some kinds.Authority) Revert = refl
 same_shape (Some kinds.Authority) GenKey = refl
 same_shape (Some kinds.Authority) (RevertSp keep) = refl
+same_shape (Some kinds.Authority) (Next after count) = refl
+same_shape (Some kinds.Authority) (GetAcl about what) = refl
 same_shape (Some kinds.Authority) Other = refl
 same_shape (Some kinds.CPin) (GetCells f l) = refl
 same_shape (Some kinds.CPin) (GetBytes f l) = refl
@@ -110,6 +120,8 @@ same_shape (Some kinds.CPin) Activate = refl
 same_shape (Some kinds.CPin) Revert = refl
 same_shape (Some kinds.CPin) GenKey = refl
 same_shape (Some kinds.CPin) (RevertSp keep) = refl
+same_shape (Some kinds.CPin) (Next after count) = refl
+same_shape (Some kinds.CPin) (GetAcl about what) = refl
 same_shape (Some kinds.CPin) Other = refl
 same_shape (Some kinds.Ace) (GetCells f l) = refl
 same_shape (Some kinds.Ace) (GetBytes f l) = refl
@@ -120,6 +132,8 @@ same_shape (Some kinds.Ace) Activate = refl
 same_shape (Some kinds.Ace) Revert = refl
 same_shape (Some kinds.Ace) GenKey = refl
 same_shape (Some kinds.Ace) (RevertSp keep) = refl
+same_shape (Some kinds.Ace) (Next after count) = refl
+same_shape (Some kinds.Ace) (GetAcl about what) = refl
 same_shape (Some kinds.Ace) Other = refl
 same_shape (Some kinds.Locking) (GetCells f l) = refl
 same_shape (Some kinds.Locking) (GetBytes f l) = refl
@@ -130,6 +144,8 @@ same_shape (Some kinds.Locking) Activate = refl
 same_shape (Some kinds.Locking) Revert = refl
 same_shape (Some kinds.Locking) GenKey = refl
 same_shape (Some kinds.Locking) (RevertSp keep) = refl
+same_shape (Some kinds.Locking) (Next after count) = refl
+same_shape (Some kinds.Locking) (GetAcl about what) = refl
 same_shape (Some kinds.Locking) Other = refl
 same_shape (Some kinds.MbrControl) (GetCells f l) = refl
 same_shape (Some kinds.MbrControl) (GetBytes f l) = refl
@@ -140,6 +156,8 @@ same_shape (Some kinds.MbrControl) Activate = refl
 same_shape (Some kinds.MbrControl) Revert = refl
 same_shape (Some kinds.MbrControl) GenKey = refl
 same_shape (Some kinds.MbrControl) (RevertSp keep) = refl
+same_shape (Some kinds.MbrControl) (Next after count) = refl
+same_shape (Some kinds.MbrControl) (GetAcl about what) = refl
 same_shape (Some kinds.MbrControl) Other = refl
 same_shape (Some kinds.TperInfo) (GetCells f l) = refl
 same_shape (Some kinds.TperInfo) (GetBytes f l) = refl
@@ -150,6 +168,8 @@ same_shape (Some kinds.TperInfo) Activate = refl
 same_shape (Some kinds.TperInfo) Revert = refl
 same_shape (Some kinds.TperInfo) GenKey = refl
 same_shape (Some kinds.TperInfo) (RevertSp keep) = refl
+same_shape (Some kinds.TperInfo) (Next after count) = refl
+same_shape (Some kinds.TperInfo) (GetAcl about what) = refl
 same_shape (Some kinds.TperInfo) Other = refl
 same_shape (Some kinds.LockingInfo) (GetCells f l) = refl
 same_shape (Some kinds.LockingInfo) (GetBytes f l) = refl
@@ -158,6 +178,10 @@ same_shape (Some kinds.LockingInfo) (SetBytes a b) = refl
 same_shape (Some kinds.LockingInfo) (Authenticate a p) = refl
 same_shape (Some kinds.LockingInfo) Activate = refl
 same_shape (Some kinds.LockingInfo) Revert = refl
+same_shape (Some kinds.LockingInfo) GenKey = refl
+same_shape (Some kinds.LockingInfo) (RevertSp keep) = refl
+same_shape (Some kinds.LockingInfo) (Next after count) = refl
+same_shape (Some kinds.LockingInfo) (GetAcl about what) = refl
 same_shape (Some kinds.LockingInfo) Other = refl
 same_shape (Some kinds.Table) (GetCells f l) = refl
 same_shape (Some kinds.Table) (GetBytes f l) = refl
@@ -166,11 +190,11 @@ same_shape (Some kinds.Table) (SetBytes a b) = refl
 same_shape (Some kinds.Table) (Authenticate a p) = refl
 same_shape (Some kinds.Table) Activate = refl
 same_shape (Some kinds.Table) Revert = refl
-same_shape (Some kinds.Table) Other = refl
-same_shape (Some kinds.LockingInfo) GenKey = refl
-same_shape (Some kinds.LockingInfo) (RevertSp keep) = refl
 same_shape (Some kinds.Table) GenKey = refl
 same_shape (Some kinds.Table) (RevertSp keep) = refl
+same_shape (Some kinds.Table) (Next after count) = refl
+same_shape (Some kinds.Table) (GetAcl about what) = refl
+same_shape (Some kinds.Table) Other = refl
 same_shape (Some kinds.MbrTable) (GetCells f l) = refl
 same_shape (Some kinds.MbrTable) (GetBytes f l) = refl
 same_shape (Some kinds.MbrTable) (SetCells ps) = refl
@@ -180,6 +204,8 @@ same_shape (Some kinds.MbrTable) Activate = refl
 same_shape (Some kinds.MbrTable) Revert = refl
 same_shape (Some kinds.MbrTable) GenKey = refl
 same_shape (Some kinds.MbrTable) (RevertSp keep) = refl
+same_shape (Some kinds.MbrTable) (Next after count) = refl
+same_shape (Some kinds.MbrTable) (GetAcl about what) = refl
 same_shape (Some kinds.MbrTable) Other = refl
 same_shape (Some kinds.DataStore) (GetCells f l) = refl
 same_shape (Some kinds.DataStore) (GetBytes f l) = refl
@@ -190,6 +216,8 @@ same_shape (Some kinds.DataStore) Activate = refl
 same_shape (Some kinds.DataStore) Revert = refl
 same_shape (Some kinds.DataStore) GenKey = refl
 same_shape (Some kinds.DataStore) (RevertSp keep) = refl
+same_shape (Some kinds.DataStore) (Next after count) = refl
+same_shape (Some kinds.DataStore) (GetAcl about what) = refl
 same_shape (Some kinds.DataStore) Other = refl
 same_shape (Some kinds.DataRemoval) (GetCells f l) = refl
 same_shape (Some kinds.DataRemoval) (GetBytes f l) = refl
@@ -200,6 +228,8 @@ same_shape (Some kinds.DataRemoval) Activate = refl
 same_shape (Some kinds.DataRemoval) Revert = refl
 same_shape (Some kinds.DataRemoval) GenKey = refl
 same_shape (Some kinds.DataRemoval) (RevertSp keep) = refl
+same_shape (Some kinds.DataRemoval) (Next after count) = refl
+same_shape (Some kinds.DataRemoval) (GetAcl about what) = refl
 same_shape (Some kinds.DataRemoval) Other = refl
 same_shape (Some kinds.Key) (GetCells f l) = refl
 same_shape (Some kinds.Key) (GetBytes f l) = refl
@@ -210,7 +240,105 @@ same_shape (Some kinds.Key) Activate = refl
 same_shape (Some kinds.Key) Revert = refl
 same_shape (Some kinds.Key) GenKey = refl
 same_shape (Some kinds.Key) (RevertSp keep) = refl
+same_shape (Some kinds.Key) (Next after count) = refl
+same_shape (Some kinds.Key) (GetAcl about what) = refl
 same_shape (Some kinds.Key) Other = refl
+same_shape (Some kinds.WholeTable) (GetCells f l) = refl
+same_shape (Some kinds.WholeTable) (GetBytes f l) = refl
+same_shape (Some kinds.WholeTable) (SetCells ps) = refl
+same_shape (Some kinds.WholeTable) (SetBytes a b) = refl
+same_shape (Some kinds.WholeTable) (Authenticate a p) = refl
+same_shape (Some kinds.WholeTable) Activate = refl
+same_shape (Some kinds.WholeTable) Revert = refl
+same_shape (Some kinds.WholeTable) GenKey = refl
+same_shape (Some kinds.WholeTable) (RevertSp keep) = refl
+same_shape (Some kinds.WholeTable) (Next after count) = refl
+same_shape (Some kinds.WholeTable) (GetAcl about what) = refl
+same_shape (Some kinds.WholeTable) Other = refl
+same_shape (Some kinds.AccessControl) (GetCells f l) = refl
+same_shape (Some kinds.AccessControl) (GetBytes f l) = refl
+same_shape (Some kinds.AccessControl) (SetCells ps) = refl
+same_shape (Some kinds.AccessControl) (SetBytes a b) = refl
+same_shape (Some kinds.AccessControl) (Authenticate a p) = refl
+same_shape (Some kinds.AccessControl) Activate = refl
+same_shape (Some kinds.AccessControl) Revert = refl
+same_shape (Some kinds.AccessControl) GenKey = refl
+same_shape (Some kinds.AccessControl) (RevertSp keep) = refl
+same_shape (Some kinds.AccessControl) (Next after count) = refl
+same_shape (Some kinds.AccessControl) (GetAcl about what) = refl
+same_shape (Some kinds.AccessControl) Other = refl
+same_shape (Some kinds.ObjectTable) (GetCells f l) = refl
+same_shape (Some kinds.ObjectTable) (GetBytes f l) = refl
+same_shape (Some kinds.ObjectTable) (SetCells ps) = refl
+same_shape (Some kinds.ObjectTable) (SetBytes a b) = refl
+same_shape (Some kinds.ObjectTable) (Authenticate a p) = refl
+same_shape (Some kinds.ObjectTable) Activate = refl
+same_shape (Some kinds.ObjectTable) Revert = refl
+same_shape (Some kinds.ObjectTable) GenKey = refl
+same_shape (Some kinds.ObjectTable) (RevertSp keep) = refl
+same_shape (Some kinds.ObjectTable) (Next after count) = refl
+same_shape (Some kinds.ObjectTable) (GetAcl about what) = refl
+same_shape (Some kinds.ObjectTable) Other = refl
+same_shape (Some kinds.SpInfo) (GetCells f l) = refl
+same_shape (Some kinds.SpInfo) (GetBytes f l) = refl
+same_shape (Some kinds.SpInfo) (SetCells ps) = refl
+same_shape (Some kinds.SpInfo) (SetBytes a b) = refl
+same_shape (Some kinds.SpInfo) (Authenticate a p) = refl
+same_shape (Some kinds.SpInfo) Activate = refl
+same_shape (Some kinds.SpInfo) Revert = refl
+same_shape (Some kinds.SpInfo) GenKey = refl
+same_shape (Some kinds.SpInfo) (RevertSp keep) = refl
+same_shape (Some kinds.SpInfo) (Next after count) = refl
+same_shape (Some kinds.SpInfo) (GetAcl about what) = refl
+same_shape (Some kinds.SpInfo) Other = refl
+same_shape (Some kinds.SpTemplates) (GetCells f l) = refl
+same_shape (Some kinds.SpTemplates) (GetBytes f l) = refl
+same_shape (Some kinds.SpTemplates) (SetCells ps) = refl
+same_shape (Some kinds.SpTemplates) (SetBytes a b) = refl
+same_shape (Some kinds.SpTemplates) (Authenticate a p) = refl
+same_shape (Some kinds.SpTemplates) Activate = refl
+same_shape (Some kinds.SpTemplates) Revert = refl
+same_shape (Some kinds.SpTemplates) GenKey = refl
+same_shape (Some kinds.SpTemplates) (RevertSp keep) = refl
+same_shape (Some kinds.SpTemplates) (Next after count) = refl
+same_shape (Some kinds.SpTemplates) (GetAcl about what) = refl
+same_shape (Some kinds.SpTemplates) Other = refl
+same_shape (Some kinds.MethodId) (GetCells f l) = refl
+same_shape (Some kinds.MethodId) (GetBytes f l) = refl
+same_shape (Some kinds.MethodId) (SetCells ps) = refl
+same_shape (Some kinds.MethodId) (SetBytes a b) = refl
+same_shape (Some kinds.MethodId) (Authenticate a p) = refl
+same_shape (Some kinds.MethodId) Activate = refl
+same_shape (Some kinds.MethodId) Revert = refl
+same_shape (Some kinds.MethodId) GenKey = refl
+same_shape (Some kinds.MethodId) (RevertSp keep) = refl
+same_shape (Some kinds.MethodId) (Next after count) = refl
+same_shape (Some kinds.MethodId) (GetAcl about what) = refl
+same_shape (Some kinds.MethodId) Other = refl
+same_shape (Some kinds.SecretProtect) (GetCells f l) = refl
+same_shape (Some kinds.SecretProtect) (GetBytes f l) = refl
+same_shape (Some kinds.SecretProtect) (SetCells ps) = refl
+same_shape (Some kinds.SecretProtect) (SetBytes a b) = refl
+same_shape (Some kinds.SecretProtect) (Authenticate a p) = refl
+same_shape (Some kinds.SecretProtect) Activate = refl
+same_shape (Some kinds.SecretProtect) Revert = refl
+same_shape (Some kinds.SecretProtect) GenKey = refl
+same_shape (Some kinds.SecretProtect) (RevertSp keep) = refl
+same_shape (Some kinds.SecretProtect) (Next after count) = refl
+same_shape (Some kinds.SecretProtect) (GetAcl about what) = refl
+same_shape (Some kinds.SecretProtect) Other = refl
+same_shape (Some kinds.Template) (GetCells f l) = refl
+same_shape (Some kinds.Template) (GetBytes f l) = refl
+same_shape (Some kinds.Template) (SetCells ps) = refl
+same_shape (Some kinds.Template) (SetBytes a b) = refl
+same_shape (Some kinds.Template) (Authenticate a p) = refl
+same_shape (Some kinds.Template) Activate = refl
+same_shape (Some kinds.Template) Revert = refl
+same_shape (Some kinds.Template) GenKey = refl
+same_shape (Some kinds.Template) (RevertSp keep) = refl
+same_shape (Some kinds.Template) (Next after count) = refl
+same_shape (Some kinds.Template) (GetAcl about what) = refl
+same_shape (Some kinds.Template) Other = refl
 
 -- what a call asks has the shape that its method wants
 abbrev Fits : Option Ask → Ask → Type 0
@@ -311,14 +439,37 @@ keep_fits : (o : Option (List (ℕ × Tree))) → Fits (keep_in o) (RevertSp fal
 keep_fits None = tt
 keep_fits (Some ps) = keep_of_fits (number_or 0 (value_of keep_global_range_key_parameter ps))
 
+rows_behind_fit : (after : Option (Option Uid)) (count : Option (Option ℕ)) → Fits (rows_behind after count) (Next None None)
+rows_behind_fit None count = tt
+rows_behind_fit (Some after) None = tt
+rows_behind_fit (Some after) (Some count) = refl
+
+next_fits : (o : Option (List (ℕ × Tree))) → Fits (next_in o) (Next None None)
+next_fits None = tt
+next_fits (Some ps) = rows_behind_fit (row_if_any (value_of next_where_parameter ps)) (number_if_any (value_of next_count_parameter ps))
+
+acl_fits : (args : List Tree) → Fits (get_acl_of args) (GetAcl some_uid some_uid)
+acl_fits [] = tt
+acl_fits (number n ∷ ts) = tt
+acl_fits (list us ∷ ts) = tt
+acl_fits (named n v ∷ ts) = tt
+acl_fits (bytes b ∷ []) = tt
+acl_fits (bytes b ∷ number n ∷ ts) = tt
+acl_fits (bytes b ∷ list us ∷ ts) = tt
+acl_fits (bytes b ∷ named n v ∷ ts) = tt
+acl_fits (bytes b ∷ bytes c ∷ []) = only_if _ (Some (GetAcl (uid_of b) (uid_of c))) (GetAcl some_uid some_uid) refl
+acl_fits (bytes b ∷ bytes c ∷ t ∷ ts) = tt
+
 other_fits : (profile : Profile) (method : Uid) (args : List Tree) → Fits (other_ask_of profile method args) (sketch_of_other profile method)
 other_fits Base method args = refl
 other_fits Field method args =
     either (method.0 == gen_key.0) _ _ _ _ (without_fits GenKey args)
     (either (method.0 == revert_sp.0) _ _ _ _ (keep_fits (options (keep_global_range_key_parameter ∷ []) args)) refl)
 other_fits Opal method args =
-    either (method.0 == gen_key.0) _ _ _ _ (without_fits GenKey args)
-    (either (method.0 == revert_sp.0) _ _ _ _ (keep_fits (options (keep_global_range_key_parameter ∷ []) args)) refl)
+    either (method.0 == next.0) _ _ _ _ (next_fits (options (next_where_parameter ∷ next_count_parameter ∷ []) args))
+    (either (method.0 == get_acl.0) _ _ _ _ (acl_fits args)
+    (either (method.0 == gen_key.0) _ _ _ _ (without_fits GenKey args)
+    (either (method.0 == revert_sp.0) _ _ _ _ (keep_fits (options (keep_global_range_key_parameter ∷ []) args)) refl)))
 
 asked_fits : (profile : Profile) (sp : Sp) (object method : Uid) (args : List Tree) → Fits (ask_of profile sp object method args) (sketch_of profile sp object method)
 asked_fits profile sp object method args =
@@ -341,7 +492,7 @@ covered : Profile → Grant → Bool
 covered profile g = has_case profile g.sp g.object g.method
 
 all_covered : (profile : Profile) → list_all (covered profile) (access_list profile) ≡ true
-unfolding covered authorities_of_locking this_sp_grants owner_grants label_grants removal_grants authority_grants fixed_ace_gets user_ace_grants range_get_ace_grants gen_key_ace_grants read_locked_ace_grants write_locked_ace_grants done_ace_grants pin_grants range_get_grants range_set_grants mbr_grants info_grants datastore_grants key_grants
+unfolding covered authorities_of_locking this_sp_grants owner_grants label_grants removal_grants authority_grants fixed_ace_gets user_ace_grants range_get_ace_grants gen_key_ace_grants read_locked_ace_grants write_locked_ace_grants done_ace_grants pin_grants range_get_grants range_set_grants mbr_grants info_grants datastore_grants key_grants own_grants listed_grants told_grants method_grants maker_grants name_grants mode_grants
 all_covered Base = refl
 all_covered Field = refl
 all_covered Opal = refl

@@ -3,6 +3,7 @@ use Rattle.std.proofs.Common.{◌≡◌, ◌+◌, ◌*◌, ◌/◌, ◌≤◌, �
 use Rattle.std.specs.Prelude.{nat_le, Result, Ok, Err}
 use Rattle.audit.specs.declared.rules.rule.Rule.{Rule}
 use Rattle.std.proofs.lemmas.Bool.Decides.{nat_tests}
+use Rattle.basics.specs.declared.profile.Profile.{Profile}
 use Rattle.sp_cells.specs.declared.names.Uid.{Uid}
 use Rattle.sp_cells.specs.declared.names.Sp.{Sp}
 use Rattle.sp_cells.specs.declared.names.Sp.TheVariants.{Admin, Locking}
@@ -18,7 +19,7 @@ use Rattle.sp_cells.specs.declared.error.SetError.TheVariants as faults
 use Rattle.sp_tables.specs.Looks.{fault_seen}
 use Rattle.sp_tables.specs.Tries.{names_tries}
 use Rattle.tcg_calls.specs.declared.call_shapes.ask.Ask.{Ask}
-use Rattle.tcg_calls.specs.declared.call_shapes.ask.Ask.TheVariants.{GetCells, GetBytes, SetCells, SetBytes, Authenticate, Activate, Revert, GenKey, RevertSp, Other}
+use Rattle.tcg_calls.specs.declared.call_shapes.ask.Ask.TheVariants.{GetCells, GetBytes, SetCells, SetBytes, Authenticate, Activate, Revert, GenKey, RevertSp, Next, GetAcl, Other}
 use Rattle.sessions.specs.Deeds.{Setting, cells_set, bytes_set}
 use Rattle.sessions.specs.Made.{is_within, CanSet}
 use Rattle.methods.specs.declared.kinds.Kind.{Kind}
@@ -50,6 +51,8 @@ cells-fit sizes sp object types Activate = tt
 cells-fit sizes sp object types Revert = tt
 cells-fit sizes sp object types GenKey = tt
 cells-fit sizes sp object types (RevertSp keep) = tt
+cells-fit sizes sp object types (Next after count) = tt
+cells-fit sizes sp object types (GetAcl about what) = tt
 cells-fit sizes sp object types Other = tt
 
 le-of : (a b : ℕ) → nat_le a b ≡ true → a ≤ b
@@ -82,24 +85,34 @@ bytes-fit sizes Locking table Activate = tt
 bytes-fit sizes Locking table Revert = tt
 bytes-fit sizes Locking table GenKey = tt
 bytes-fit sizes Locking table (RevertSp keep) = tt
+bytes-fit sizes Locking table (Next after count) = tt
+bytes-fit sizes Locking table (GetAcl about what) = tt
 bytes-fit sizes Locking table Other = tt
 
-setting-fits : (sizes : TableSizes) (sp : Sp) (object : Uid) (kind : Option Kind) (ask : Ask) → BytesFit sizes sp (setting sp sizes object kind ask)
-setting-fits sizes sp object None ask = cells-fit sizes sp object (set_types_of None) ask
-setting-fits sizes sp object (Some kinds.ThisSp) ask = cells-fit sizes sp object (set_types_of (Some kinds.ThisSp)) ask
-setting-fits sizes sp object (Some kinds.Sp) ask = cells-fit sizes sp object (set_types_of (Some kinds.Sp)) ask
-setting-fits sizes sp object (Some kinds.Authority) ask = cells-fit sizes sp object (set_types_of (Some kinds.Authority)) ask
-setting-fits sizes sp object (Some kinds.CPin) ask = cells-fit sizes sp object (set_types_of (Some kinds.CPin)) ask
-setting-fits sizes sp object (Some kinds.Ace) ask = cells-fit sizes sp object (set_types_of (Some kinds.Ace)) ask
-setting-fits sizes sp object (Some kinds.Locking) ask = cells-fit sizes sp object (set_types_of (Some kinds.Locking)) ask
-setting-fits sizes sp object (Some kinds.MbrControl) ask = cells-fit sizes sp object (set_types_of (Some kinds.MbrControl)) ask
-setting-fits sizes sp object (Some kinds.TperInfo) ask = cells-fit sizes sp object (set_types_of (Some kinds.TperInfo)) ask
-setting-fits sizes sp object (Some kinds.LockingInfo) ask = cells-fit sizes sp object (set_types_of (Some kinds.LockingInfo)) ask
-setting-fits sizes sp object (Some kinds.Table) ask = cells-fit sizes sp object (set_types_of (Some kinds.Table)) ask
-setting-fits sizes sp object (Some kinds.Key) ask = cells-fit sizes sp object (set_types_of (Some kinds.Key)) ask
-setting-fits sizes sp object (Some kinds.MbrTable) ask = bytes-fit sizes sp ShadowMbr ask
-setting-fits sizes sp object (Some kinds.DataStore) ask = bytes-fit sizes sp DataStore ask
-setting-fits sizes sp object (Some kinds.DataRemoval) ask = cells-fit sizes sp object (set_types_of (Some kinds.DataRemoval)) ask
+setting-fits : (profile : Profile) (sizes : TableSizes) (sp : Sp) (object : Uid) (kind : Option Kind) (ask : Ask) → BytesFit sizes sp (setting profile sp sizes object kind ask)
+setting-fits profile sizes sp object None ask = cells-fit sizes sp object (set_types_of profile None) ask
+setting-fits profile sizes sp object (Some kinds.ThisSp) ask = cells-fit sizes sp object (set_types_of profile (Some kinds.ThisSp)) ask
+setting-fits profile sizes sp object (Some kinds.Sp) ask = cells-fit sizes sp object (set_types_of profile (Some kinds.Sp)) ask
+setting-fits profile sizes sp object (Some kinds.Authority) ask = cells-fit sizes sp object (set_types_of profile (Some kinds.Authority)) ask
+setting-fits profile sizes sp object (Some kinds.CPin) ask = cells-fit sizes sp object (set_types_of profile (Some kinds.CPin)) ask
+setting-fits profile sizes sp object (Some kinds.Ace) ask = cells-fit sizes sp object (set_types_of profile (Some kinds.Ace)) ask
+setting-fits profile sizes sp object (Some kinds.Locking) ask = cells-fit sizes sp object (set_types_of profile (Some kinds.Locking)) ask
+setting-fits profile sizes sp object (Some kinds.MbrControl) ask = cells-fit sizes sp object (set_types_of profile (Some kinds.MbrControl)) ask
+setting-fits profile sizes sp object (Some kinds.TperInfo) ask = cells-fit sizes sp object (set_types_of profile (Some kinds.TperInfo)) ask
+setting-fits profile sizes sp object (Some kinds.LockingInfo) ask = cells-fit sizes sp object (set_types_of profile (Some kinds.LockingInfo)) ask
+setting-fits profile sizes sp object (Some kinds.Table) ask = cells-fit sizes sp object (set_types_of profile (Some kinds.Table)) ask
+setting-fits profile sizes sp object (Some kinds.Key) ask = cells-fit sizes sp object (set_types_of profile (Some kinds.Key)) ask
+setting-fits profile sizes sp object (Some kinds.WholeTable) ask = cells-fit sizes sp object (set_types_of profile (Some kinds.WholeTable)) ask
+setting-fits profile sizes sp object (Some kinds.AccessControl) ask = cells-fit sizes sp object (set_types_of profile (Some kinds.AccessControl)) ask
+setting-fits profile sizes sp object (Some kinds.ObjectTable) ask = cells-fit sizes sp object (set_types_of profile (Some kinds.ObjectTable)) ask
+setting-fits profile sizes sp object (Some kinds.SpInfo) ask = cells-fit sizes sp object (set_types_of profile (Some kinds.SpInfo)) ask
+setting-fits profile sizes sp object (Some kinds.SpTemplates) ask = cells-fit sizes sp object (set_types_of profile (Some kinds.SpTemplates)) ask
+setting-fits profile sizes sp object (Some kinds.MethodId) ask = cells-fit sizes sp object (set_types_of profile (Some kinds.MethodId)) ask
+setting-fits profile sizes sp object (Some kinds.SecretProtect) ask = cells-fit sizes sp object (set_types_of profile (Some kinds.SecretProtect)) ask
+setting-fits profile sizes sp object (Some kinds.Template) ask = cells-fit sizes sp object (set_types_of profile (Some kinds.Template)) ask
+setting-fits profile sizes sp object (Some kinds.MbrTable) ask = bytes-fit sizes sp ShadowMbr ask
+setting-fits profile sizes sp object (Some kinds.DataStore) ask = bytes-fit sizes sp DataStore ask
+setting-fits profile sizes sp object (Some kinds.DataRemoval) ask = cells-fit sizes sp object (set_types_of profile (Some kinds.DataRemoval)) ask
 
 -- with what a fault tells
 abbrev Fits : TableSizes → Sp → Result Setting Rule → Type 0
@@ -129,4 +142,4 @@ valid-fits s (Some (bytes_set place content)) h set is = subst (CanSet (sectors_
     by_sp Locking g = g
 
 pub to_set-fits : (s : Standing) (object : Uid) (ask : Ask) (set : Setting) → to_set s object ask ≡ Ok set → CanSet (sectors_of s.sizes) s.sp set
-to_set-fits s object ask set is = valid-fits s (setting s.sp s.sizes object (kind_of s.sp object) ask) (setting-fits s.sizes s.sp object (kind_of s.sp object) ask) set is
+to_set-fits s object ask set is = valid-fits s (setting s.profile s.sp s.sizes object (kind_of s.sp object) ask) (setting-fits s.profile s.sizes s.sp object (kind_of s.sp object) ask) set is

@@ -1,5 +1,6 @@
 -- A Set sets cells of its own object alone, in columns that Set takes of the object's kind.
 use Rattle.std.proofs.Common.{◌≡◌, ◌==◌, ℕ, Bool, true, false, List, [], ◌∷◌, Option, None, Some, refl, sym, ◌∙◌, ap, subst, ◌⊎◌, inl, inr, if◌then◌else◌, eqb-true}
+use Rattle.basics.specs.declared.profile.Profile.{Profile}
 use Rattle.std.specs.Prelude.{is_some, Ok}
 use Rattle.std.specs.List.{list_all, filter_map, cons_option}
 use Rattle.sp_cells.specs.declared.names.Uid.{Uid}
@@ -14,7 +15,7 @@ use Rattle.sp_cells.specs.Names.{col}
 use Rattle.sp_cells.specs.Values.{type_at}
 use Rattle.tcg_tokens.specs.Tree.{Tree}
 use Rattle.tcg_calls.specs.declared.call_shapes.ask.Ask.{Ask}
-use Rattle.tcg_calls.specs.declared.call_shapes.ask.Ask.TheVariants.{GetCells, GetBytes, SetCells, SetBytes, Authenticate, Activate, Revert, GenKey, RevertSp, Other}
+use Rattle.tcg_calls.specs.declared.call_shapes.ask.Ask.TheVariants.{GetCells, GetBytes, SetCells, SetBytes, Authenticate, Activate, Revert, GenKey, RevertSp, Next, GetAcl, Other}
 use Rattle.methods.specs.declared.kinds.Kind.{Kind}
 use Rattle.methods.specs.declared.kinds.Kind.TheVariants as kinds
 use Rattle.methods.specs.Kinds.{kind_of}
@@ -94,30 +95,40 @@ asked_there object target cells types Activate is = absurd cc
 asked_there object target cells types Revert is = absurd cc
 asked_there object target cells types GenKey is = absurd cc
 asked_there object target cells types (RevertSp keep) is = absurd cc
+asked_there object target cells types (Next after count) is = absurd cc
+asked_there object target cells types (GetAcl about what) is = absurd cc
 asked_there object target cells types Other is = absurd cc
 
-set_there : (sp : Sp) (n : TableSizes) (object target : Uid) (cells : List (Column × Cell)) (kind : Option Kind) (ask : Ask) → setting sp n object kind ask ≡ Some (cells_set target cells) → SetsOnly object (set_columns_of kind) target cells
-set_there sp n object target cells (Some kinds.MbrTable) ask is = absurd (no_cells target cells sp n ShadowMbr ask is)
-set_there sp n object target cells (Some kinds.DataStore) ask is = absurd (no_cells target cells sp n DataStore ask is)
-set_there sp n object target cells (Some kinds.DataRemoval) ask is = asked_there object target cells (set_types_of (Some kinds.DataRemoval)) ask is
-set_there sp n object target cells (Some kinds.ThisSp) ask is = asked_there object target cells (set_types_of (Some kinds.ThisSp)) ask is
-set_there sp n object target cells (Some kinds.Sp) ask is = asked_there object target cells (set_types_of (Some kinds.Sp)) ask is
-set_there sp n object target cells (Some kinds.Authority) ask is = asked_there object target cells (set_types_of (Some kinds.Authority)) ask is
-set_there sp n object target cells (Some kinds.CPin) ask is = asked_there object target cells (set_types_of (Some kinds.CPin)) ask is
-set_there sp n object target cells (Some kinds.Ace) ask is = asked_there object target cells (set_types_of (Some kinds.Ace)) ask is
-set_there sp n object target cells (Some kinds.Locking) ask is = asked_there object target cells (set_types_of (Some kinds.Locking)) ask is
-set_there sp n object target cells (Some kinds.MbrControl) ask is = asked_there object target cells (set_types_of (Some kinds.MbrControl)) ask is
-set_there sp n object target cells (Some kinds.TperInfo) ask is = asked_there object target cells (set_types_of (Some kinds.TperInfo)) ask is
-set_there sp n object target cells (Some kinds.LockingInfo) ask is = asked_there object target cells (set_types_of (Some kinds.LockingInfo)) ask is
-set_there sp n object target cells (Some kinds.Table) ask is = asked_there object target cells (set_types_of (Some kinds.Table)) ask is
-set_there sp n object target cells (Some kinds.Key) ask is = asked_there object target cells (set_types_of (Some kinds.Key)) ask is
-set_there sp n object target cells None ask is = asked_there object target cells (set_types_of None) ask is
+set_there : (profile : Profile) (sp : Sp) (n : TableSizes) (object target : Uid) (cells : List (Column × Cell)) (kind : Option Kind) (ask : Ask) → setting profile sp n object kind ask ≡ Some (cells_set target cells) → SetsOnly object (set_columns_of profile kind) target cells
+set_there profile sp n object target cells (Some kinds.MbrTable) ask is = absurd (no_cells target cells sp n ShadowMbr ask is)
+set_there profile sp n object target cells (Some kinds.DataStore) ask is = absurd (no_cells target cells sp n DataStore ask is)
+set_there profile sp n object target cells (Some kinds.DataRemoval) ask is = asked_there object target cells (set_types_of profile (Some kinds.DataRemoval)) ask is
+set_there profile sp n object target cells (Some kinds.ThisSp) ask is = asked_there object target cells (set_types_of profile (Some kinds.ThisSp)) ask is
+set_there profile sp n object target cells (Some kinds.Sp) ask is = asked_there object target cells (set_types_of profile (Some kinds.Sp)) ask is
+set_there profile sp n object target cells (Some kinds.Authority) ask is = asked_there object target cells (set_types_of profile (Some kinds.Authority)) ask is
+set_there profile sp n object target cells (Some kinds.CPin) ask is = asked_there object target cells (set_types_of profile (Some kinds.CPin)) ask is
+set_there profile sp n object target cells (Some kinds.Ace) ask is = asked_there object target cells (set_types_of profile (Some kinds.Ace)) ask is
+set_there profile sp n object target cells (Some kinds.Locking) ask is = asked_there object target cells (set_types_of profile (Some kinds.Locking)) ask is
+set_there profile sp n object target cells (Some kinds.MbrControl) ask is = asked_there object target cells (set_types_of profile (Some kinds.MbrControl)) ask is
+set_there profile sp n object target cells (Some kinds.TperInfo) ask is = asked_there object target cells (set_types_of profile (Some kinds.TperInfo)) ask is
+set_there profile sp n object target cells (Some kinds.LockingInfo) ask is = asked_there object target cells (set_types_of profile (Some kinds.LockingInfo)) ask is
+set_there profile sp n object target cells (Some kinds.Table) ask is = asked_there object target cells (set_types_of profile (Some kinds.Table)) ask is
+set_there profile sp n object target cells (Some kinds.Key) ask is = asked_there object target cells (set_types_of profile (Some kinds.Key)) ask is
+set_there profile sp n object target cells (Some kinds.WholeTable) ask is = asked_there object target cells (set_types_of profile (Some kinds.WholeTable)) ask is
+set_there profile sp n object target cells (Some kinds.AccessControl) ask is = asked_there object target cells (set_types_of profile (Some kinds.AccessControl)) ask is
+set_there profile sp n object target cells (Some kinds.ObjectTable) ask is = asked_there object target cells (set_types_of profile (Some kinds.ObjectTable)) ask is
+set_there profile sp n object target cells (Some kinds.SpInfo) ask is = asked_there object target cells (set_types_of profile (Some kinds.SpInfo)) ask is
+set_there profile sp n object target cells (Some kinds.SpTemplates) ask is = asked_there object target cells (set_types_of profile (Some kinds.SpTemplates)) ask is
+set_there profile sp n object target cells (Some kinds.MethodId) ask is = asked_there object target cells (set_types_of profile (Some kinds.MethodId)) ask is
+set_there profile sp n object target cells (Some kinds.SecretProtect) ask is = asked_there object target cells (set_types_of profile (Some kinds.SecretProtect)) ask is
+set_there profile sp n object target cells (Some kinds.Template) ask is = asked_there object target cells (set_types_of profile (Some kinds.Template)) ask is
+set_there profile sp n object target cells None ask is = asked_there object target cells (set_types_of profile None) ask is
 
 pub set_law : SetLaw
-set_law sp n object target ask cells is = set_there sp n object target cells (kind_of sp object) ask is
+set_law profile sp n object target ask cells is = set_there profile sp n object target cells (kind_of sp object) ask is
 
 pub pin_law : PinLaw
-pin_law sp n object target ask cells kind is = subst (λ (k : Option Kind). SetsOnly object (set_columns_of k) target cells) kind (set_law sp n object target ask cells is)
+pin_law profile sp n object target ask cells kind is = subst (λ (k : Option Kind). SetsOnly object (set_columns_of profile k) target cells) kind (set_law profile sp n object target ask cells is)
 
 -- a setting that is valid is the one that was asked for
 fault_there : (fault : Option SetError) (st asked : Setting) → unless_fault fault asked ≡ Ok st → Some asked ≡ Some st
@@ -129,4 +140,4 @@ valid_there s None st is = cc
 valid_there s (Some asked) st is = fault_there (fault_by s.sectors s.newest s.sp asked) st asked is
 
 pub store_law : SettingLaw
-store_law s object ask st is = valid_there s (setting s.sp s.sizes object (kind_of s.sp object) ask) st is
+store_law s object ask st is = valid_there s (setting s.profile s.sp s.sizes object (kind_of s.sp object) ask) st is

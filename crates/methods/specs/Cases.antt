@@ -16,9 +16,9 @@ use Rattle.methods.specs.Kinds.{kind_of}
 use Rattle.methods.specs.declared.kinds.Kind.{Kind}
 use Rattle.methods.specs.declared.kinds.Kind.TheVariants as kinds
 use Rattle.methods.specs.Columns.{columns_in, columns_of}
-use Rattle.sp_cells.specs.Values.{locking_types}
+use Rattle.sp_cells.specs.Values.{sp_types, authority_types, locking_types, tper_info_types}
 use Rattle.basics.specs.declared.profile.Profile.{Profile}
-use Rattle.basics.specs.declared.profile.Profile.TheVariants.{Base}
+use Rattle.basics.specs.declared.profile.Profile.TheVariants.{Base, Field, Opal}
 use Rattle.methods.specs.Effects.{has_ask}
 use Rattle.methods.specs.Laws.{IsAmong}
 
@@ -37,10 +37,19 @@ new_cells config sp = items_of (factory_contents config) sp
 abbrev pub HasCell : List Item → Uid → Column → Type 0
 HasCell items object k = is_some (item_at items object k) ≡ true
 
--- the columns of a kind in a drive of this profile: keys of ranges are not Base's
+-- the columns of a kind in a drive of this profile: keys of ranges are not Base's, and a whole row of SP, Authority and TPerInfo
+-- is Opal's
+abbrev pub field_columns : Option Kind → List Column
+field_columns (Some kinds.Sp) = columns_in sp_types
+field_columns (Some kinds.Authority) = columns_in authority_types
+field_columns (Some kinds.TperInfo) = columns_in tper_info_types
+field_columns kind = columns_of kind
+
 abbrev pub columns_under : Profile → Option Kind → List Column
 columns_under Base (Some kinds.Locking) = columns_in locking_types
-columns_under _ kind = columns_of kind
+columns_under Base kind = field_columns kind
+columns_under Field kind = field_columns kind
+columns_under Opal kind = columns_of kind
 
 -- an object has cells in columns of its kind alone; one that has a cell in the first has one in each of them
 pub record HasColumnsOfKind (profile : Profile) (sp : Sp) (items : List Item) (object : Uid)

@@ -9,17 +9,20 @@ use Rattle.sp_cells.specs.declared.byte_tables.ByteTable.{ByteTable}
 use Rattle.sp_cells.specs.declared.byte_tables.TableSizes.{TableSizes}
 use Rattle.sp_cells.specs.ByteTables.{bytes_of_table, table_begin}
 use Rattle.sp_cells.specs.Flat.{LookUp}
+use Rattle.sp_cells.specs.Names.{table_of}
 use Rattle.sp_cells.specs.Numbers.{key_number}
+use Rattle.sp_tables.specs.RowNames.{rows_of}
+use Rattle.ace_eval.specs.Aces.{acl_at}
 use Rattle.sp_tables.specs.Looks.{RowLook, fault_seen}
 use Rattle.sp_tables.specs.Tries.{names_tries}
 use Rattle.transactions.specs.Bytes.{bytes_from}
 use Rattle.audit.specs.declared.reason.Why.{Why}
 use Rattle.audit.specs.declared.rules.rule.Rule.{Rule}
-use Rattle.audit.specs.declared.rules.rule.Rule.TheVariants.{NoMethod, Shape, OutsideTable, TooLong, WrongValue, InTransaction, NoKey, GlobalLocked}
+use Rattle.audit.specs.declared.rules.rule.Rule.TheVariants.{NoMethod, Shape, OutsideTable, TooLong, WrongValue, InTransaction, NoKey, GlobalLocked, NoSuchRow, NoAccessLine}
 use Rattle.tcg_calls.specs.Carried.{is_carried}
 use Rattle.tcg_tokens.specs.Tree.{Tree, Trees, bytes, list, trees_of}
 use Rattle.tcg_calls.specs.declared.call_shapes.ask.Ask.{Ask}
-use Rattle.tcg_calls.specs.declared.call_shapes.ask.Ask.TheVariants.{GetCells, GetBytes, SetCells, SetBytes, Authenticate, Activate, Revert, GenKey, RevertSp, Other}
+use Rattle.tcg_calls.specs.declared.call_shapes.ask.Ask.TheVariants.{GetCells, GetBytes, SetCells, SetBytes, Authenticate, Activate, Revert, GenKey, RevertSp, Next, GetAcl, Other}
 use Rattle.tcg_calls.specs.Named.{values_of}
 use Rattle.tcg_calls.specs.Asks.{ask_of}
 use Rattle.tcg_calls.specs.Limits.{most_response}
@@ -32,6 +35,7 @@ use Rattle.methods.specs.Settings.{setting}
 use Rattle.sessions.specs.Deeds.{Setting, cells_set, bytes_set}
 use Rattle.methods.specs.Said.{reply_of}
 use Rattle.methods.specs.Erasures.{is_wholly_locked}
+use Rattle.methods.specs.Tables.{uids_tree, rows_asked}
 use Rattle.methods.specs.Effects.{ask_at, last_row, sp_of_row, unless_fault}
 
 -- what the rules ask of a session: the drive's profile and sectors, the sizes of its byte tables, the rows and their bytes in
@@ -117,7 +121,7 @@ valid s (Some set) = unless_fault (fault_by s.sectors s.newest s.sp set) set
 
 -- what a Set sets, where its values are valid, or the rule that refuses them
 abbrev pub to_set : Standing → Uid → Ask → Result Setting Rule
-to_set s object ask = valid s (setting s.sp s.sizes object (kind_of s.sp object) ask)
+to_set s object ask = valid s (setting s.profile s.sp s.sizes object (kind_of s.sp object) ask)
 
 abbrev pub makes : Result Setting Rule → Judgement
 makes (Err rule) = Refuses invalid_parameter rule
@@ -139,6 +143,20 @@ abbrev pub reverts_sp : LookUp → Bool → Judgement
 reverts_sp rows keep =
     if keep && is_wholly_locked rows then Refuses fail GlobalLocked else RevertsSp keep
 
+-- the names of objects, in one list
+abbrev pub names_given : List Uid → Judgement
+names_given names = gives (uids_tree names ∷ [])
+
+-- the rows of a table that a Next asks for; there are none behind what is no row of it
+abbrev pub rows_told : Option (List Uid) → Judgement
+rows_told None = Refuses invalid_parameter NoSuchRow
+rows_told (Some rows) = names_given rows
+
+-- the ACEs of a method of an object, where the access list has them
+abbrev pub acl_told : Option (List Uid) → Judgement
+acl_told None = Refuses invalid_parameter NoAccessLine
+acl_told (Some acl) = names_given acl
+
 -- what a granted call comes to, where the object's kind has the method
 abbrev pub does_ask : Standing → Uid → Ask → Judgement
 does_ask s object (GetCells first last) = gives (listing s object first last)
@@ -151,6 +169,9 @@ does_ask s object Activate = unless_open s.is_open Activates
 does_ask s object Revert = unless_open s.is_open (Reverts (sp_of_row object))
 does_ask s object GenKey = unless_open s.is_open (erases (key_number object))
 does_ask s object (RevertSp keep) = unless_open s.is_open (reverts_sp s.rows keep)
+does_ask s object (Next after count) =
+    rows_told (rows_asked after count (rows_of s.sp (table_of object)))
+does_ask s object (GetAcl about method) = acl_told (acl_at s.profile s.sp about method)
 does_ask s object Other = Refuses fail NoMethod
 
 abbrev pub does : Standing → Uid → Ask → Judgement

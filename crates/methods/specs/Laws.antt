@@ -113,8 +113,8 @@ abbrev pub RiseLaw : Type 0
 RiseLaw = (kind : Option Kind) → are_rising (columns_of kind) ≡ true
 
 -- the columns of a kind that Set takes
-abbrev pub set_columns_of : Option Kind → List Column
-set_columns_of kind = columns_in (set_types_of kind)
+abbrev pub set_columns_of : Profile → Option Kind → List Column
+set_columns_of profile kind = columns_in (set_types_of profile kind)
 
 -- the cells are of this object, and each stands in one of these columns
 pub record SetsOnly (object : Uid) (columns : List Column) (target : Uid)
@@ -125,20 +125,20 @@ pub record SetsOnly (object : Uid) (columns : List Column) (target : Uid)
 
 -- a call sets cells of its own object alone, and in columns that Set takes of the object's kind
 abbrev pub SetLaw : Type 0
-SetLaw = (sp : Sp) (sizes : TableSizes) (object target : Uid) (ask : Ask)
-    (cells : List (Column × Cell)) → setting sp sizes object (kind_of sp object) ask
+SetLaw = (profile : Profile) (sp : Sp) (sizes : TableSizes) (object target : Uid) (ask : Ask)
+    (cells : List (Column × Cell)) → setting profile sp sizes object (kind_of sp object) ask
     ≡ Some (cells_set target cells)
-    → SetsOnly object (set_columns_of (kind_of sp object)) target cells
+    → SetsOnly object (set_columns_of profile (kind_of sp object)) target cells
 
 -- of a C_PIN row it sets the PIN alone: no Set changes a TryLimit, a Tries or a UID
 abbrev pub PinLaw : Type 0
-PinLaw = (sp : Sp) (sizes : TableSizes) (object target : Uid) (ask : Ask)
+PinLaw = (profile : Profile) (sp : Sp) (sizes : TableSizes) (object target : Uid) (ask : Ask)
     (cells : List (Column × Cell)) → kind_of sp object ≡ Some kinds.CPin
-    → setting sp sizes object (kind_of sp object) ask ≡ Some (cells_set target cells)
+    → setting profile sp sizes object (kind_of sp object) ask ≡ Some (cells_set target cells)
     → SetsOnly object (pin_column ∷ []) target cells
 
 -- what is stored is what the call sets
 abbrev pub SettingLaw : Type 0
 SettingLaw = (s : Standing) (object : Uid) (ask : Ask) (set : Setting)
     → to_set s object ask ≡ Ok set
-    → setting s.sp s.sizes object (kind_of s.sp object) ask ≡ Some set
+    → setting s.profile s.sp s.sizes object (kind_of s.sp object) ask ≡ Some set

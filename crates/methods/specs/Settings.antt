@@ -1,4 +1,5 @@
 -- What Set sets: the cells, or the bytes, that a call's values write (Core 2.01, section 5.3.3.7).
+use Rattle.basics.specs.declared.profile.Profile.{Profile}
 use Rattle.std.specs.Prelude.{◌+◌, ℕ, List, Option, None, Some, is_some, if◌then◌else◌}
 use Rattle.std.specs.List.{list_all, filter_map}
 use Rattle.sp_cells.specs.declared.names.Uid.{Uid}
@@ -58,8 +59,8 @@ bytes_of_ask Locking sizes table (SetBytes row bytes) =
     then Some (bytes_set (table_begin sizes table + row) bytes) else None
 bytes_of_ask Locking sizes table _ = None
 
--- what a call sets, by the kind of its object; None where a value is none that its place takes
-abbrev pub setting : Sp → TableSizes → Uid → Option Kind → Ask → Option Setting
-setting sp sizes object (Some kinds.MbrTable) ask = bytes_of_ask sp sizes ShadowMbr ask
-setting sp sizes object (Some kinds.DataStore) ask = bytes_of_ask sp sizes DataStore ask
-setting sp sizes object kind ask = cells_of_ask object (set_types_of kind) ask
+-- what a call sets, by the profile and the kind of its object; None where a value is none that its place takes
+abbrev pub setting : Profile → Sp → TableSizes → Uid → Option Kind → Ask → Option Setting
+setting profile sp sizes object (Some kinds.MbrTable) ask = bytes_of_ask sp sizes ShadowMbr ask
+setting profile sp sizes object (Some kinds.DataStore) ask = bytes_of_ask sp sizes DataStore ask
+setting profile sp sizes object kind ask = cells_of_ask object (set_types_of profile kind) ask

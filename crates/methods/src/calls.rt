@@ -13,6 +13,7 @@ use crate::grants::denied;
 use crate::handlers;
 use crate::kinds::{Handler, Kind, byte_table_of, kind_of};
 use crate::outcome::{self, MethodFault, Outcome, refused};
+use crate::tables;
 use ace_eval::Authorities;
 use audit::Why;
 use audit::rules::Rule;
@@ -90,6 +91,13 @@ fn perform(
         (Handler::GenKey, _) => handlers::gen_key(alloc, store, session, object),
         (Handler::RevertSp, Ask::RevertSp { keep }) => {
             handlers::revert_sp(alloc, store, sessions, session, *keep)
+        }
+        (Handler::ListRows, Ask::Next { after, count }) => {
+            tables::next(alloc, session.sp, object, *after, *count)
+        }
+        (Handler::ReadAcl, Ask::GetAcl { object, method }) => {
+            let profile = store.committed().config().profile();
+            tables::get_acl(alloc, profile, session.sp, *object, *method)
         }
         _ => Ok(refused(alloc, status::FAIL, Rule::NoMethod)),
     }

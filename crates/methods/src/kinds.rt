@@ -1,12 +1,13 @@
 //! The kinds of objects.
 
-ghost use Rattle.std.specs.Prelude.{◌≡◌, ◌/◌, ◌<◌, ◌≤◌, ◌==◌};
-ghost use Rattle.methods.specs.Kinds.{kind_of as kind_of_object, kind_of_table, byte_table_of as byte_table_by};
+ghost use Rattle.std.specs.Prelude.{◌≡◌, ◌/◌, ◌%◌, ◌<◌, ◌≤◌, ◌==◌};
+ghost use Rattle.methods.specs.Kinds.{kind_of as kind_of_object, kind_of_table, is_whole_table, byte_table_of as byte_table_by};
 
 use sp_cells::names::tables;
 use sp_cells::{ByteTable, Sp, Uid};
 
-/// What an object is: the SP of the session, or a row of one of the tables.
+/// What an object is: the SP of the session, a table as a whole, or a row of one of the tables. A row of the Table table
+/// is of the kind `Table` where it tells of a byte table, and else of the kind `ObjectTable`.
 #[derive(Clone, Copy, Debug, PartialEq, Eq)]
 pub enum Kind {
     ThisSp,
@@ -23,6 +24,14 @@ pub enum Kind {
     DataStore,
     Key,
     DataRemoval,
+    WholeTable,
+    AccessControl,
+    ObjectTable,
+    SpInfo,
+    SpTemplates,
+    MethodId,
+    SecretProtect,
+    Template,
 }
 
 /// What does a call of a method that a kind of object has.
@@ -37,6 +46,8 @@ pub enum Handler {
     Revert,
     GenKey,
     RevertSp,
+    ListRows,
+    ReadAcl,
 }
 
 /// The kind of the rows of a table, by the upper four bytes of their names.
@@ -52,11 +63,23 @@ fn table_kind(table: u64) -> Option<Kind>
         tables::MBR_CONTROL => Some(Kind::MbrControl),
         tables::TPER_INFO => Some(Kind::TperInfo),
         tables::LOCKING_INFO => Some(Kind::LockingInfo),
-        tables::TABLE => Some(Kind::Table),
+        tables::TABLE => Some(Kind::ObjectTable),
+        tables::SP_INFO => Some(Kind::SpInfo),
+        tables::SP_TEMPLATES => Some(Kind::SpTemplates),
+        tables::METHOD_ID => Some(Kind::MethodId),
+        tables::SECRET_PROTECT => Some(Kind::SecretProtect),
+        tables::TEMPLATE => Some(Kind::Template),
         tables::K_AES_256 => Some(Kind::Key),
         tables::DATA_REMOVAL => Some(Kind::DataRemoval),
         _ => None,
     }
+}
+
+/// Whether the object is a table as a whole.
+fn is_whole_table(object: Uid) -> bool
+    ensures { result ≡ is_whole_table object }
+{
+    object.0 % 0x1_0000_0000 == 0
 }
 
 /// The kind of an object in a session of an SP. The byte tables are two in the Locking SP alone.
@@ -71,6 +94,15 @@ pub fn kind_of(sp: Sp, object: Uid) -> Option<Kind>
     }
     if object == Uid::DATASTORE_TABLE && sp == Sp::Locking {
         return Some(Kind::DataStore);
+    }
+    if object == Uid::ACCESS_CONTROL {
+        return Some(Kind::AccessControl);
+    }
+    if is_whole_table(object) {
+        return Some(Kind::WholeTable);
+    }
+    if object == Uid::MBR_TABLE_ROW || object == Uid::DATASTORE_TABLE_ROW {
+        return Some(Kind::Table);
     }
     table_kind(object.table())
 }

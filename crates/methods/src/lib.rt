@@ -12,7 +12,9 @@ mod laws;
 mod lists;
 mod outcome;
 mod plain;
+mod set_types;
 mod settings;
+mod tables;
 
 pub use calls::invoke;
 pub use changes::apply_set;
@@ -22,4 +24,5 @@ pub use laws::{laws_of_cases, laws_of_grants, laws_of_lists, laws_of_sets};
 pub use lists::list_columns;
 pub use outcome::{MethodFault, Outcome};
 pub use plain::{PlainGet, get_plainly, read_plain_get};
+pub use set_types::set_types;
 pub use settings::check_set;

@@ -20,8 +20,8 @@ use tcg_tokens::Value;
 /// The columns of the row for Get among the rows of a kind, with the types of their values.
 macro_rules! get_columns {
     (GetCells [$($column:ident $kind:ident),*] $($rest:tt)*) => { &[$((Column::$column, ColumnType::$kind)),*] };
-    ($other:ident [$($column:ident $kind:ident),*] $handler:ident, $($rest:tt)*) => { get_columns!($($rest)*) };
-    ($other:ident [$($column:ident $kind:ident),*] $handler:ident) => { &[] };
+    ($other:ident $columns:tt $handler:ident, $($rest:tt)*) => { get_columns!($($rest)*) };
+    ($other:ident $columns:tt $handler:ident) => { &[] };
 }
 
 macro_rules! call_with {

@@ -9,6 +9,7 @@ ghost use Rattle.methods.specs.Kinds.{kind_of as kind_of_object};
 
 use crate::cases::method_cases;
 use crate::kinds::{Kind, byte_table_of, kind_of};
+use crate::set_types::set_types;
 use sp_cells::values::ColumnType;
 use sp_cells::{ByteTable, Cell, Column, Rows, Sp, Uid};
 use std::alloc::{AllocError, Global};
@@ -116,8 +117,8 @@ fn bytes_to_set<R: Rows>(
 
 /// What the row for Set among the rows of a kind makes of a call; a kind without one sets no cell.
 macro_rules! set_row {
-    ($alloc:ident $rows:ident $sp:ident $object:ident $table:ident $ask:ident SetCells [$($column:ident $kind:ident),*] $($rest:tt)*) => {
-        cells_to_set($alloc, $object, $ask, &[$((Column::$column, ColumnType::$kind)),*])
+    ($alloc:ident $rows:ident $sp:ident $object:ident $table:ident $ask:ident SetCells [] $($rest:tt)*) => {
+        cells_to_set($alloc, $object, $ask, set_types($rows.profile(), kind_of($sp, $object)))
     };
     ($alloc:ident $rows:ident $sp:ident $object:ident $table:ident $ask:ident SetBytes [] $($rest:tt)*) => {
         bytes_to_set($alloc, $rows, $sp, $table, $ask)
@@ -148,7 +149,7 @@ pub fn check_set<R: Rows>(
     ask: &Ask,
 ) -> Result<Option<Change>, AllocError>
     ensures { IfOk result (λ c. option_map setting_seen c
-        ≡ setting sp (R.sizes_of rows.now) object (kind_of_object sp object) ask.now) }
+        ≡ setting (R.profile_of rows.now) sp (R.sizes_of rows.now) object (kind_of_object sp object) ask.now) }
 {
     let kind = kind_of(sp, object);
     let table = byte_table_of(kind);

@@ -12,7 +12,7 @@ use Rattle.sp_cells.specs.declared.names.Sp.TheVariants.{Admin, Locking}
 use Rattle.sp_cells.specs.declared.names.Uid.{Uid}
 use Rattle.sp_cells.specs.declared.values.ColumnType.{ColumnType}
 use Rattle.sp_cells.specs.declared.values.ColumnType.TheVariants as types
-use Rattle.sp_cells.specs.Limits.{most_pin_bytes, most_elements, cryptographic_erase}
+use Rattle.sp_cells.specs.Limits.{most_pin_bytes, most_common_name_bytes, most_short_elements, most_elements, cryptographic_erase}
 use Rattle.sp_cells.specs.Names.{col}
 use Rattle.sp_cells.specs.Values.{type_at}
 use Rattle.tcg_tokens.specs.Tree.{Tree}
@@ -29,11 +29,18 @@ use Rattle.reasons.specs.Reasons.{worded_number}
 use Rattle.reasons.specs.Rulings.{because_text}
 use Rattle.reasons.specs.Sent.{SentCall, call_sent, session_of_frame}
 
+-- of at most so many bytes, or elements
+abbrev pub bytes_words : ℕ → List ℕ
+bytes_words most = worded_number (codes " is no byte string of at most ") most ++ codes " bytes"
+
+abbrev pub expression_words : ℕ → List ℕ
+expression_words most = worded_number (codes " is no expression of at most ") most ++ codes " elements"
+
 -- what a value is not, which a column of this type does not take
 abbrev pub unlike_words : ColumnType → List ℕ
 unlike_words types.Name = codes " is no byte string"
-unlike_words types.Secret =
-    worded_number (codes " is no byte string of at most ") most_pin_bytes ++ codes " bytes"
+unlike_words types.CommonName = bytes_words most_common_name_bytes
+unlike_words types.Secret = bytes_words most_pin_bytes
 unlike_words types.Object = codes " is no name of eight bytes"
 unlike_words types.Number = codes " is no number"
 unlike_words types.Flag = codes " is neither 0 nor 1"
@@ -41,9 +48,12 @@ unlike_words types.Mechanism =
     worded_number (codes " is not ") cryptographic_erase ++ codes ", the cryptographic erase"
 unlike_words types.Resets =
     codes " is no list of kinds of reset: 0, 1 and 3, each at most once"
-unlike_words types.Expression =
-    worded_number (codes " is no expression of at most ") most_elements ++ codes " elements"
+unlike_words types.PowerCycleResets =
+    codes " is no list of kinds of reset that has 0: 0, 1 and 3, each at most once"
+unlike_words types.Expression = expression_words most_short_elements
+unlike_words types.LongExpression = expression_words most_elements
 unlike_words types.Columns = codes " is no list of columns"
+unlike_words types.OneName = codes " is no list of one name"
 
 -- a column by its names; one that has no type among those of Set is set by no Set
 abbrev pub cell_words : Uid → Column → List ℕ
@@ -69,16 +79,16 @@ abbrev pub untaken_by : Uid → List (Column × ColumnType) → List (ℕ × Tre
 untaken_by object types values = untaken_line object types (first_untaken types values)
 
 -- of a Set of columns in a session of an SP
-abbrev pub values_text : Sp → Uid → Option Ask → List ℕ
-values_text sp object None = []
-values_text sp object (Some (SetCells values)) =
-    untaken_by object (set_types_of (kind_of sp object)) values
-values_text sp object (Some _) = []
+abbrev pub values_text : Profile → Sp → Uid → Option Ask → List ℕ
+values_text profile sp object None = []
+values_text profile sp object (Some (SetCells values)) =
+    untaken_by object (set_types_of profile (kind_of sp object)) values
+values_text profile sp object (Some _) = []
 
 abbrev pub set_text : Profile → Sp → Option SentCall → List ℕ
 set_text profile sp None = []
 set_text profile sp (Some c) =
-    values_text sp c.object (ask_of profile sp c.object c.method c.args)
+    values_text profile sp c.object (ask_of profile sp c.object c.method c.args)
 
 -- the SP on which the session of a number lives
 abbrev pub sp_of_session : (Sp → SpLife) → ℕ → Option Sp

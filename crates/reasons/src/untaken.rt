@@ -8,7 +8,7 @@ ghost use Rattle.methods.specs.Kinds.{kind_of as kind_of_object};
 ghost use Rattle.methods.specs.Settings.{cell_for};
 ghost use Rattle.reasons.specs.Lives.{life_on};
 ghost use Rattle.reasons.specs.Sent.{call_seen};
-ghost use Rattle.reasons.specs.Untaken.{unlike_words, cell_words, untaken_words, first_untaken, untaken_line, untaken_by, values_text, set_text, sp_of_session, untaken_on, untaken_text};
+ghost use Rattle.reasons.specs.Untaken.{bytes_words, expression_words, unlike_words, cell_words, untaken_words, first_untaken, untaken_line, untaken_by, values_text, set_text, sp_of_session, untaken_on, untaken_text};
 
 use crate::asked::{ask_in, is_its_session};
 use crate::explained::{SessionChronicle, append_number};
@@ -16,23 +16,25 @@ use crate::remedies::{append_column_name, append_object_name};
 use crate::rulings::append_because;
 use crate::sent::{call_sent, session_named};
 use basics::Profile;
-use methods::{Kind, kind_of};
-use sp_cells::limits::{CRYPTOGRAPHIC_ERASE, MOST_ELEMENTS, MOST_PIN_BYTES};
+use methods::{kind_of, set_types};
+use sp_cells::limits::{
+    CRYPTOGRAPHIC_ERASE, MOST_COMMON_NAME_BYTES, MOST_ELEMENTS, MOST_PIN_BYTES, MOST_SHORT_ELEMENTS,
+};
 use sp_cells::values::ColumnType;
 use sp_cells::{Column, Sp, Uid};
 use std::alloc::{AllocError, Global};
 use tcg_calls::call_shapes::{Ask, Assignments, cell_of, uid_of};
 use tcg_tokens::{Call, Value};
 
-/// Appends how many bytes a PIN has at most, behind what has no more.
-fn append_secret(alloc: Global, words: &mut Vec<u8>) -> Result<(), AllocError>
-    ensures { OnOk result (words.new.items ≡ words.old.items ++ unlike_words ColumnType.Secret) }
+/// Appends that it is no byte string of at most so many bytes.
+fn append_bytes(alloc: Global, words: &mut Vec<u8>, most: usize) -> Result<(), AllocError>
+    ensures { OnOk result (words.new.items ≡ words.old.items ++ bytes_words most) }
 {
     append_number(
         alloc,
         words,
         b" is no byte string of at most ",
-        MOST_PIN_BYTES as u64,
+        most as u64,
     )?;
     words.extend_from_slice(b" bytes")?;
     Ok(())
@@ -48,16 +50,15 @@ fn append_mechanism(alloc: Global, words: &mut Vec<u8>) -> Result<(), AllocError
     Ok(())
 }
 
-/// Appends how many elements an expression has at most.
-fn append_expression(alloc: Global, words: &mut Vec<u8>) -> Result<(), AllocError>
-    ensures { OnOk result (words.new.items
-        ≡ words.old.items ++ unlike_words ColumnType.Expression) }
+/// Appends that it is no expression of at most so many elements.
+fn append_expression(alloc: Global, words: &mut Vec<u8>, most: usize) -> Result<(), AllocError>
+    ensures { OnOk result (words.new.items ≡ words.old.items ++ expression_words most) }
 {
     append_number(
         alloc,
         words,
         b" is no expression of at most ",
-        MOST_ELEMENTS as u64,
+        most as u64,
     )?;
     words.extend_from_slice(b" elements")?;
     Ok(())
@@ -68,9 +69,11 @@ fn append_unlike(alloc: Global, words: &mut Vec<u8>, kind: ColumnType) -> Result
     ensures { OnOk result (words.new.items ≡ words.old.items ++ unlike_words kind) }
 {
     match kind {
-        ColumnType::Secret => append_secret(alloc, words)?,
+        ColumnType::CommonName => append_bytes(alloc, words, MOST_COMMON_NAME_BYTES)?,
+        ColumnType::Secret => append_bytes(alloc, words, MOST_PIN_BYTES)?,
         ColumnType::Mechanism => append_mechanism(alloc, words)?,
-        ColumnType::Expression => append_expression(alloc, words)?,
+        ColumnType::Expression => append_expression(alloc, words, MOST_SHORT_ELEMENTS)?,
+        ColumnType::LongExpression => append_expression(alloc, words, MOST_ELEMENTS)?,
         ColumnType::Name => words.extend_from_slice(b" is no byte string")?,
         ColumnType::Object => words.extend_from_slice(b" is no name of eight bytes")?,
         ColumnType::Number => words.extend_from_slice(b" is no number")?,
@@ -78,7 +81,11 @@ fn append_unlike(alloc: Global, words: &mut Vec<u8>, kind: ColumnType) -> Result
         ColumnType::Resets => words.extend_from_slice(
             b" is no list of kinds of reset: 0, 1 and 3, each at most once",
         )?,
+        ColumnType::PowerCycleResets => words.extend_from_slice(
+            b" is no list of kinds of reset that has 0: 0, 1 and 3, each at most once",
+        )?,
         ColumnType::Columns => words.extend_from_slice(b" is no list of columns")?,
+        ColumnType::OneName => words.extend_from_slice(b" is no list of one name")?,
     }
     Ok(())
 }
@@ -201,68 +208,22 @@ fn append_untaken_by(
     Ok(())
 }
 
-/// The columns of a range that Set takes, with the types of their values.
-const RANGE_TYPES: [(Column, ColumnType); 7] = [
-    (Column::RANGE_START, ColumnType::Number),
-    (Column::RANGE_LENGTH, ColumnType::Number),
-    (Column::READ_LOCK_ENABLED, ColumnType::Flag),
-    (Column::WRITE_LOCK_ENABLED, ColumnType::Flag),
-    (Column::READ_LOCKED, ColumnType::Flag),
-    (Column::WRITE_LOCKED, ColumnType::Flag),
-    (Column::LOCK_ON_RESET, ColumnType::Resets),
-];
-
-/// Those of the control of the shadow MBR.
-const MBR_CONTROL_TYPES: [(Column, ColumnType); 3] = [
-    (Column::MBR_ENABLE, ColumnType::Flag),
-    (Column::MBR_DONE, ColumnType::Flag),
-    (Column::MBR_DONE_ON_RESET, ColumnType::Resets),
-];
-
-/// Appends which column of an object of this kind does not take its value.
-fn append_untaken_of(
-    alloc: Global,
-    text: &mut Vec<u8>,
-    object: Uid,
-    kind: Option<Kind>,
-    values: &Assignments,
-) -> Result<(), AllocError>
-    ensures { OnOk result (text.new.items
-        ≡ text.old.items ++ untaken_by object (set_types_of kind) values.now) }
-{
-    let enabled = [(Column::ENABLED, ColumnType::Flag)];
-    let pin = [(Column::PIN, ColumnType::Secret)];
-    let expression = [(Column::BOOLEAN_EXPR, ColumnType::Expression)];
-    let resets = [(Column::PROGRAMMATIC_RESET_ENABLE, ColumnType::Flag)];
-    let mechanism = [(Column::ACTIVE_DATA_REMOVAL_MECHANISM, ColumnType::Mechanism)];
-    match kind {
-        Some(Kind::Authority) => append_untaken_by(alloc, text, object, &enabled, values),
-        Some(Kind::CPin) => append_untaken_by(alloc, text, object, &pin, values),
-        Some(Kind::Ace) => append_untaken_by(alloc, text, object, &expression, values),
-        Some(Kind::Locking) => append_untaken_by(alloc, text, object, &RANGE_TYPES, values),
-        Some(Kind::MbrControl) => {
-            append_untaken_by(alloc, text, object, &MBR_CONTROL_TYPES, values)
-        }
-        Some(Kind::TperInfo) => append_untaken_by(alloc, text, object, &resets, values),
-        Some(Kind::DataRemoval) => append_untaken_by(alloc, text, object, &mechanism, values),
-        _ => append_untaken_by(alloc, text, object, &[], values),
-    }
-}
-
 /// Appends which column does not take its value, of a Set of columns in a session of an SP.
 fn append_values(
     alloc: Global,
     text: &mut Vec<u8>,
+    profile: Profile,
     sp: Sp,
     object: Uid,
     ask: Option<&Ask>,
 ) -> Result<(), AllocError>
     ensures { OnOk result (text.new.items
-        ≡ text.old.items ++ values_text sp object (option_map (λ a. a.now) ask.entry)) }
+        ≡ text.old.items ++ values_text profile sp object (option_map (λ a. a.now) ask.entry)) }
 {
     match ask {
         Some(Ask::SetCells(values)) => {
-            append_untaken_of(alloc, text, object, kind_of(sp, object), values)
+            let types = set_types(profile, kind_of(sp, object));
+            append_untaken_by(alloc, text, object, types, values)
         }
         _ => Ok(()),
     }
@@ -283,7 +244,8 @@ fn append_set_values(
         return Ok(());
     };
     let ask = ask_in(alloc, profile, sp, call)?;
-    append_values(alloc, text, sp, uid_of(&call.object), ask.as_ref())
+    let object = uid_of(&call.object);
+    append_values(alloc, text, profile, sp, object, ask.as_ref())
 }
 
 /// The SP on which the session of a number lives.

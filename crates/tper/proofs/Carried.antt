@@ -16,7 +16,10 @@ use Rattle.tcg_tokens.proofs.Tokens.{bool_cases}
 use Rattle.sp_cells.specs.declared.names.Uid.{Uid}
 use Rattle.sp_cells.specs.declared.names.Sp.{Sp}
 use Rattle.sp_cells.specs.Flat.{LookUp}
-use Rattle.sp_cells.specs.Names.{session_manager, sync_session}
+use Rattle.ace_eval.specs.Aces.{acl_at}
+use Rattle.sp_tables.specs.RowNames.{rows_of}
+use Rattle.methods.specs.Tables.{rows_asked, uids_tree}
+use Rattle.sp_cells.specs.Names.{session_manager, sync_session, table_of}
 use Rattle.audit.specs.declared.reason.AttemptFailure.{AttemptFailure}
 use Rattle.audit.specs.declared.reason.AttemptFailure.TheVariants.{WrongPin, LockedOut, Disabled, Blocked, Unknown}
 use Rattle.audit.specs.declared.reason.Why.{Why}
@@ -26,7 +29,7 @@ use Rattle.tcg_calls.specs.CellValues.{number_in}
 use Rattle.tcg_calls.specs.Limits.{most_response}
 use Rattle.tcg_calls.specs.Statuses.{success, not_authorized, sp_busy, no_sessions_available, invalid_parameter, transaction_failure, response_overflow, authority_locked_out, fail}
 use Rattle.tcg_calls.specs.declared.call_shapes.ask.Ask.{Ask}
-use Rattle.tcg_calls.specs.declared.call_shapes.ask.Ask.TheVariants.{GetCells, GetBytes, SetCells, SetBytes, Authenticate, Activate, Revert, GenKey, RevertSp, Other}
+use Rattle.tcg_calls.specs.declared.call_shapes.ask.Ask.TheVariants.{GetCells, GetBytes, SetCells, SetBytes, Authenticate, Activate, Revert, GenKey, RevertSp, Next, GetAcl, Other}
 use Rattle.sessions.specs.declared.opening.Opening.{Opening}
 use Rattle.sessions.specs.declared.opening.StartVerdict.TheVariants.{Refused, Attempted}
 use Rattle.sessions.specs.Answers.{rows_in_force}
@@ -41,7 +44,7 @@ use Rattle.methods.specs.Kinds.{kind_of, byte_table_of}
 use Rattle.methods.specs.Effects.{ask_at, last_row, sp_of_row}
 use Rattle.sp_cells.specs.Numbers.{key_number}
 use Rattle.methods.specs.Erasures.{is_wholly_locked}
-use Rattle.methods.specs.Judgement.{Standing, Judgement, Refuses, Gives, Activates, Reverts, RevertsSp, erases, reverts_sp, denial, gives, listing, bytes_between, bytes_given, to_set, makes, unless_open, does_ask, does, unless_denied, judged}
+use Rattle.methods.specs.Judgement.{Standing, Judgement, Refuses, Gives, Activates, Reverts, RevertsSp, erases, reverts_sp, denial, gives, listing, bytes_between, bytes_given, to_set, makes, unless_open, does_ask, does, unless_denied, judged, rows_told, acl_told}
 use Rattle.methods.specs.Calls.{outcome_of}
 use Rattle.audit.specs.declared.rules.rule.Rule.TheVariants.{NotInUse, SpBusy, NoNumber, OutsideTable, TooLong, GlobalLocked}
 use Rattle.audit.specs.declared.rules.rule.Rule.{Rule}
@@ -127,6 +130,14 @@ revert_carried : (rows : LookUp) (sp : Sp) (b keep : Bool) → Told rows sp (con
 revert_carried rows sp true keep = bare_fail
 revert_carried rows sp false keep = bare_success
 
+told_carried : (rows : LookUp) (sp : Sp) (o : Option (List Uid)) → Told rows sp (rows_told o)
+told_carried rows sp None = bare_invalid
+told_carried rows sp (Some names) = given rows sp (uids_tree names ∷ [])
+
+acl_carried : (rows : LookUp) (sp : Sp) (o : Option (List Uid)) → Told rows sp (acl_told o)
+acl_carried rows sp None = bare_invalid
+acl_carried rows sp (Some acl) = given rows sp (uids_tree acl ∷ [])
+
 ask_carried : (rows : LookUp) (sp : Sp) (its : Standing) (object : Uid) (ask : Ask) → Told rows sp (does_ask its object ask)
 ask_carried rows sp its object (GetCells first last) = given rows sp (listing its object first last)
 ask_carried rows sp its object (GetBytes first last) = bytes_carried rows sp (λ row. its.byte (table_begin its.sizes (byte_table_of (kind_of its.sp object)) + row)) (bytes_of_table its.sizes (byte_table_of (kind_of its.sp object))) first last
@@ -137,6 +148,8 @@ ask_carried rows sp its object Activate = inside_carried rows sp its.is_open Act
 ask_carried rows sp its object Revert = inside_carried rows sp its.is_open (Reverts (sp_of_row object)) bare_success
 ask_carried rows sp its object GenKey = inside_carried rows sp its.is_open (erases (key_number object)) (erases_carried rows sp (key_number object))
 ask_carried rows sp its object (RevertSp keep) = inside_carried rows sp its.is_open (reverts_sp its.rows keep) (revert_carried rows sp (keep && is_wholly_locked its.rows) keep)
+ask_carried rows sp its object (Next after count) = told_carried rows sp (rows_asked after count (rows_of its.sp (table_of object)))
+ask_carried rows sp its object (GetAcl about what) = acl_carried rows sp (acl_at its.profile its.sp about what)
 ask_carried rows sp its object Other = bare_fail
 
 unless_carried : (rows : LookUp) (sp : Sp) (denied : Option Why) (j : Judgement) → Told rows sp j → Told rows sp (unless_denied denied j)

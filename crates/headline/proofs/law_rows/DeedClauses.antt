@@ -32,7 +32,7 @@ started_says law o past act session row response is =
 changed_says : DeedLaw → (o : Origin) (past : List Event) (act : Act) (sp : Sp) (change : Change)
     (response : Response) → does o past act (Changed sp change) response
     → (session : Begun) × (session_on past sp ≡ Some session) × (session.sp ≡ sp)
-    × (sp ≡ Admin → is_of_row is_set_in_admin change ≡ true)
+    × (sp ≡ Admin → is_of_row (is_set_in_admin o.tables.config.profile) change ≡ true)
     × (is_inside (table_sectors o.tables.config) sp change ≡ true)
 changed_says law o past act sp change response is =
     let its = law o past act (Changed sp change) response is in

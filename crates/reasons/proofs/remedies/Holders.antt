@@ -5,7 +5,7 @@ use Rattle.sp_cells.specs.declared.names.Uid.{Uid}
 use Rattle.sp_cells.specs.declared.names.Sp.{Sp}
 use Rattle.sp_cells.specs.declared.names.Column.{Column}
 use Rattle.sp_cells.specs.declared.cells.Cell.{Cell}
-use Rattle.sp_cells.specs.declared.cells.Cell.TheVariants.{Number, Bytes, Uid as Object, Numbers, Expr, Columns}
+use Rattle.sp_cells.specs.declared.cells.Cell.TheVariants.{Number, Bytes, Uid as Object, Numbers, Expr, Columns, OneName}
 use Rattle.sp_cells.specs.ColumnNames.{boolean_expr_column}
 use Rattle.sp_cells.specs.Expressions.{ExpressionTree, leaf, both, either}
 use Rattle.sp_cells.specs.Flat.{LookUp}
@@ -28,6 +28,7 @@ no_cell (Some (Bytes n)) h = h
 no_cell (Some (Object n)) h = h
 no_cell (Some (Numbers n)) h = h
 no_cell (Some (Columns n)) h = h
+no_cell (Some (OneName n)) h = h
 
 pub nobody_has_ace : (profile : Profile) (look : LookUp) (sp : Sp) (o m : Uid) (k : Option Column) → HasAce profile look sp o m k [] → ⊥
 nobody_has_ace profile look sp o m k h = no_cell (look sp h.ace boolean_expr_column) h.holds
