@@ -3,7 +3,9 @@ use Rattle.device_data.specs.Protocols.{protocol_list, certificate_data}
 use Rattle.trusted_cmds.specs.declared.command.CommandError.{CommandError}
 use Rattle.sp_cells.specs.Config.{Config}
 use Rattle.std.proofs.Common.{◌≡◌, ℕ, ◌<◌, ◌==◌, ◌*◌, Bool, true, false, List, [], ◌∷◌, ◌++◌, reverse, length, slice_index, Option, Some, None, Result, Ok, Err, is_some, refl, sym, subst, ap, ◌∙◌, if◌then◌else◌, arith}
-use Rattle.std.specs.Prelude.{nat_le, unwrap_or}
+use Rattle.std.specs.Prelude.{Result, nat_le, unwrap_or}
+use Rattle.tcg_tokens.specs.declared.error.TokenError.{TokenError}
+use Rattle.tcg_tokens.specs.Message.{Message}
 use Rattle.audit.specs.declared.reason.Why.{Why}
 use Rattle.fis.specs.H2d.{h2d_at}
 use Rattle.fis.specs.Types.{h2d_type}
@@ -37,7 +39,7 @@ use Rattle.history.specs.Events.{Deed, Nothing, OfQueue, QueueMended, Took, WasR
 use Rattle.history.specs.Readers.{waiting, writing}
 use Rattle.history.specs.Facts.{Facts, facts, session_named}
 use Rattle.history.specs.Decisions.{received, aborted, asks_certificates}
-use Rattle.history.specs.Tcg.{command_read, sent, framed, to_session, to_manager, answers, is_manager, accepted, commanded, data_read, data_of, receive_data, certificates_or, received_bytes}
+use Rattle.history.specs.Tcg.{command_read, sent, framed, to_session, to_manager, in_session, item_in, breaks_off, broken_off, is_discarded, manager_event, answers, is_manager, accepted, commanded, data_read, data_of, receive_data, certificates_or, received_bytes}
 use Rattle.history.specs.Answers.{errored, ready, answer_fis, read_by, is_holding, served_fises}
 use Rattle.history.specs.History.{Act, log}
 use Rattle.tper.specs.Tper.{Keeps as KeepsTper, IsToldOfSend, response_at}
@@ -58,7 +60,7 @@ use Rattle.drive.specs.Answers.{fises_in, IsAnswer, IsDoneAndAnswered}
 use Rattle.shadow_mbr.specs.declared.erasure.Erasure.{Erasure}
 use Rattle.shadow_mbr.specs.Erasure.{is_erased}
 use Rattle.drive.proofs.Keeping.{seen-is, nothing-keeps, failed-keeps, holds-keeps, moved-keeps, tper-keeps, sends-of-tper, sends-erase, sent-deed, IsOfTper, of_tper}
-use Rattle.audit.specs.declared.rules.rule.Rule.TheVariants.{NoCommand, NoFrame}
+use Rattle.audit.specs.declared.rules.rule.Rule.TheVariants.{NoCommand, NoFrame, Discarded}
 use Rattle.audit.specs.declared.rules.rule.Rule.{Rule}
 
 -- what is sent and received
@@ -204,13 +206,21 @@ waiting-data d o past com_id room other k =
 abbrev pub Succeeds : Event → Type 0
 Succeeds ev = (ev.failed ≡ None) × (is_holding ev.deed ≡ false)
 
+broken-succeeds : (f : Facts) (com_id : ℕ) (named : Session) (session : Begun) (item : Result Message TokenError) (b : Bool) → Succeeds (if b then broken_off session.sp else answers com_id named (in_session f session item))
+broken-succeeds f com_id named session item true = (refl, refl)
+broken-succeeds f com_id named session item false = (refl, refl)
+
+manager-succeeds : (f : Facts) (com_id : ℕ) (named : Session) (item : Result Message TokenError) (b : Bool) → Succeeds (if b then ignores Discarded else answers com_id named (to_manager f com_id item))
+manager-succeeds f com_id named item true = (refl, refl)
+manager-succeeds f com_id named item false = (refl, refl)
+
 to-session-succeeds : (f : Facts) (com_id : ℕ) (named : Session) (payload : List ℕ) (b : Option Begun) → Succeeds (to_session f com_id named payload b)
 to-session-succeeds f com_id named payload None = (refl, refl)
-to-session-succeeds f com_id named payload (Some session) = (refl, refl)
+to-session-succeeds f com_id named payload (Some session) = broken-succeeds f com_id named session (item_in f.config.profile payload) (breaks_off f.config.profile (item_in f.config.profile payload))
 
 framed-succeeds : (f : Facts) (com_id : ℕ) (frame : Frame) (b : Bool)
-    → Succeeds (if b then answers com_id frame.session (to_manager f com_id (message_in frame.payload)) else to_session f com_id frame.session frame.payload (session_named f com_id frame.session))
-framed-succeeds f com_id frame true = (refl, refl)
+    → Succeeds (if b then manager_event f com_id frame.session (message_in frame.payload) else to_session f com_id frame.session frame.payload (session_named f com_id frame.session))
+framed-succeeds f com_id frame true = manager-succeeds f com_id frame.session (message_in frame.payload) (is_discarded f.config.profile (message_in frame.payload))
 framed-succeeds f com_id frame false = to-session-succeeds f com_id frame.session frame.payload (session_named f com_id frame.session)
 
 frame-succeeds : (f : Facts) (com_id : ℕ) (frame : Frame) (b : Bool) → Succeeds (if b then framed f com_id frame else ignores NoFrame)

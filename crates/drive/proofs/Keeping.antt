@@ -1,7 +1,7 @@
 -- What is kept stays what the past says, with one event more.
 use Rattle.std.proofs.Common.{◌≡◌, ℕ, ◌<◌, ◌==◌, ◌&&◌, ◌/◌, ◌*◌, ◌+◌, ◌-◌, Bool, true, false, List, ◌∷◌, length, take, drop, nat_le, nat_lt, Option, Some, None, Result, Ok, Err, is_some, option_map, refl, sym, subst, ap, ◌∙◌, cond, if◌then◌else◌, arith, slice_index}
 use Rattle.std.proofs.Math.Path.{fun_ext}
-use Rattle.std.specs.Prelude.{unwrap_or}
+use Rattle.std.specs.Prelude.{Result, unwrap_or}
 use Rattle.std.proofs.Math.ListN.{length-set}
 use Rattle.locking.specs.declared.range.Op.{Op}
 use Rattle.locking.specs.declared.range.Op.TheVariants.{Read, Write}
@@ -19,7 +19,7 @@ use Rattle.tcg_tokens.specs.Reading.{reading as message_in}
 use Rattle.shadow_mbr.specs.Erasure.{is_erased}
 use Rattle.sessions.specs.Deeds.{Begun, erased_by}
 use Rattle.history.specs.Decisions.{completed}
-use Rattle.history.specs.Tcg.{sent, framed, to_session, to_manager, answers, is_manager}
+use Rattle.history.specs.Tcg.{sent, framed, to_session, to_manager, in_session, item_in, breaks_off, broken_off, is_discarded, manager_event, answers, is_manager}
 use Rattle.history.specs.Opening.{Origin}
 use Rattle.history.specs.Events.{HeldCommand, Held as HeldDeed, QueueFailed, QueueMended, QueueEnded, Deed, Nothing, OfQueue, Wrote, Took, BlockedSid, Chose, WasReset, InSession, Event, did, or_else, latest, ignores}
 use Rattle.history.specs.Readers.{holding, in_force, failing, failure, writing, settings_then}
@@ -35,7 +35,9 @@ use Rattle.drive.specs.Decision.{transfer_deed}
 use Rattle.drive.specs.Queue.{slot_at, held_at, with_slot, failed_queue, mended_queue, empty_queue}
 use Rattle.drive.specs.State.{DriveState, kept_facts, KeepsDrive}
 use Rattle.drive.proofs.Slots.{no_slot, none_length, slot_set}
-use Rattle.audit.specs.declared.rules.rule.Rule.TheVariants.{NoFrame}
+use Rattle.tcg_tokens.specs.declared.error.TokenError.{TokenError}
+use Rattle.tcg_tokens.specs.Message.{Message}
+use Rattle.audit.specs.declared.rules.rule.Rule.TheVariants.{NoFrame, Discarded}
 
 -- what is kept shows the facts of the past
 pub seen-is : (d : DriveState) (o : Origin) (past : List Event) → KeepsDrive d o past → kept_facts d (facts o past) ≡ facts o past
@@ -233,13 +235,21 @@ sends-erase (BlockedSid block) s before h = absurd h
 sends-erase (Chose feature) s before h = absurd h
 sends-erase (WasReset kind) s before h = absurd h
 
+broken-deed : (f : Facts) (com_id : ℕ) (named : Session) (session : Begun) (item : Result Message TokenError) (b : Bool) → IsSendDeed (if b then broken_off session.sp else answers com_id named (in_session f session item)).deed
+broken-deed f com_id named session item true = tt
+broken-deed f com_id named session item false = tt
+
+manager-deed : (f : Facts) (com_id : ℕ) (named : Session) (item : Result Message TokenError) (b : Bool) → IsSendDeed (if b then ignores Discarded else answers com_id named (to_manager f com_id item)).deed
+manager-deed f com_id named item true = tt
+manager-deed f com_id named item false = tt
+
 to-session-deed : (f : Facts) (com_id : ℕ) (named : Session) (payload : List ℕ) (b : Option Begun) → IsSendDeed (to_session f com_id named payload b).deed
 to-session-deed f com_id named payload None = tt
-to-session-deed f com_id named payload (Some session) = tt
+to-session-deed f com_id named payload (Some session) = broken-deed f com_id named session (item_in f.config.profile payload) (breaks_off f.config.profile (item_in f.config.profile payload))
 
 framed-deed : (f : Facts) (com_id : ℕ) (frame : Frame) (b : Bool)
-    → IsSendDeed (if b then answers com_id frame.session (to_manager f com_id (message_in frame.payload)) else to_session f com_id frame.session frame.payload (session_named f com_id frame.session)).deed
-framed-deed f com_id frame true = tt
+    → IsSendDeed (if b then manager_event f com_id frame.session (message_in frame.payload) else to_session f com_id frame.session frame.payload (session_named f com_id frame.session)).deed
+framed-deed f com_id frame true = manager-deed f com_id frame.session (message_in frame.payload) (is_discarded f.config.profile (message_in frame.payload))
 framed-deed f com_id frame false = to-session-deed f com_id frame.session frame.payload (session_named f com_id frame.session)
 
 frame-deed : (f : Facts) (com_id : ℕ) (frame : Frame) (b : Bool) → IsSendDeed (if b then framed f com_id frame else ignores NoFrame).deed

@@ -53,14 +53,14 @@ use Rattle.device_data.specs.Discovery.{has_owner}
 use Rattle.history.specs.Events.{Nothing, Wrote, Took, HeldCommand, Event, did, WasReset, BlockedSid, ignores}
 use Rattle.history.specs.Facts.{Facts, session_named, has_open, standing}
 use Rattle.history.specs.Decisions.{not_found, fails, refuses, aborted, fails_queue, on_drive, verdict_on, queued_by, admitted, unqueued_by, is_trusted, is_session_com_id, discovery_com_id, received, while_failed, is_busy, completed_by, completed, resets, is_received, unreceived}
-use Rattle.history.specs.Tcg.{answers, start_verdict, started_by, started, is_method_of_manager, to_manager, judgement_on, begins_on, ends_on, in_session, is_manager, to_session, framed, sent, unqueued, known, commanded, tcg, command_read, item_in, blocks_sid, send_item, send, unsent, is_sent}
+use Rattle.history.specs.Tcg.{answers, is_opal, breaks_off, broken_off, is_discarded, manager_event, start_verdict, started_by, started, is_method_of_manager, to_manager, judgement_on, begins_on, ends_on, in_session, is_manager, to_session, framed, sent, unqueued, known, commanded, tcg, command_read, item_in, blocks_sid, send_item, send, unsent, is_sent}
 use Rattle.methods.specs.Calls.{tried_in, outcome_of}
 use Rattle.history.specs.History.{Act, Accept, Complete, Reset, SoftwareReset, event_by}
 use Rattle.history.specs.MethodLaws.{IsLookedAt, IsSent, IsCall}
 use Rattle.history.specs.DenialLaws.{Moves, read_queued, write_queued, read_dma, write_dma, IsFree, TransferDenied, MethodDenied, AttemptDenied, StartDenied, IsDenied, DenialLaw}
 use Rattle.history.proofs.MethodProofs.{looked_event, looked_law, sent_law, call_law}
 use Rattle.sp_cells.specs.Resets.{programmatic}
-use Rattle.audit.specs.declared.rules.rule.Rule.TheVariants.{NoCommand, Unreadable, Mixed, BeyondDrive, SidKept, NoMethod, OutsideTable, TooLong, GlobalLocked, NoFrame}
+use Rattle.audit.specs.declared.rules.rule.Rule.TheVariants.{NoCommand, Unreadable, Mixed, BeyondDrive, SidKept, NoMethod, OutsideTable, TooLong, GlobalLocked, NoFrame, Discarded}
 use Rattle.audit.specs.declared.rules.rule.Rule.{Rule}
 
 -- forward: each of the four is denied for its reason
@@ -99,12 +99,21 @@ attempt-denied f act why d =
     ∙ ap (λ x. (tried_in f.rows d.session.sp d.authority x).denied) d.fails
     ∙ ap (λ y. Some y) (sym d.why_is)
 
+-- a call of one of its methods is not discarded
+of-manager : (profile : Profile) (p q : Bool) → q ≡ true → (is_opal profile && not (p || q)) ≡ false
+of-manager Base p q h = refl
+of-manager Field p q h = refl
+of-manager Opal true q h = refl
+of-manager Opal false true h = refl
+of-manager Opal false false h = cc
+
 start-denied : (f : Facts) (act : Act) (why : Why) → StartDenied f act why → (event_by f act).denied ≡ Some why
 start-denied f act why d =
     let o = uid_of d.object in let m = uid_of d.method in
     ap (λ (e : Event). e.denied) (sent_law f act d.com_id d.frame d.sent)
-    ∙ ap (λ b. (cond b (answers d.com_id d.frame.session (to_manager f d.com_id (message_in d.frame.payload))) (to_session f d.com_id d.frame.session d.frame.payload (session_named f d.com_id d.frame.session))).denied) d.manager
-    ∙ ap (λ r. (to_manager f d.com_id r).denied) d.calls
+    ∙ ap (λ b. (cond b (manager_event f d.com_id d.frame.session (message_in d.frame.payload)) (to_session f d.com_id d.frame.session d.frame.payload (session_named f d.com_id d.frame.session))).denied) d.manager
+    ∙ ap (λ r. (manager_event f d.com_id d.frame.session r).denied) d.calls
+    ∙ ap (λ b. (cond b (ignores Discarded) (answers d.com_id d.frame.session (to_manager f d.com_id (Ok (call d.object d.method d.args d.status))))).denied) (of-manager f.config.profile (is_method_of_manager properties o m) (is_method_of_manager start_session o m) d.starts)
     ∙ ap (λ b. (cond b (says Unchanged (properties_message (values_of d.args))) (cond (is_method_of_manager start_session o m) (started f d.com_id (values_of d.args)) (refuses_item (refusal_of fail) NoMethod))).denied) d.no_properties
     ∙ ap (λ b. (cond b (started f d.com_id (values_of d.args)) (refuses_item (refusal_of fail) NoMethod)).denied) d.starts
     ∙ ap (λ x. (started_by f d.com_id (host_of (values_of d.args)) x).denied) d.shaped
@@ -342,12 +351,20 @@ manager-is f act why com_id frame sent manager (Err e) is h = absurd (nothing h)
 framed-is : (f : Facts) (act : Act) (why : Why) (com_id : ℕ) (frame : Frame) → IsSent f act com_id frame → (framed f com_id frame).denied ≡ Some why → IsDenied f act why
 framed-is f act why com_id frame sent h = by_manager (is_manager frame.session) refl h
   where
+    by_item : is_manager frame.session ≡ false → (session : Begun) → session_named f com_id frame.session ≡ Some session → (b : Bool) → (cond b (broken_off session.sp) (answers com_id frame.session (in_session f session (item_in f.config.profile frame.payload)))).denied ≡ Some why → IsDenied f act why
+    by_item no_manager session is true g = absurd (nothing g)
+    by_item no_manager session is false g = session-is f act why com_id frame sent no_manager session is (item_in f.config.profile frame.payload) refl g
+
     by_session : is_manager frame.session ≡ false → (x : Option Begun) → session_named f com_id frame.session ≡ x → (to_session f com_id frame.session frame.payload x).denied ≡ Some why → IsDenied f act why
     by_session no_manager None is g = absurd (nothing g)
-    by_session no_manager (Some session) is g = session-is f act why com_id frame sent no_manager session is (item_in f.config.profile frame.payload) refl g
+    by_session no_manager (Some session) is g = by_item no_manager session is (breaks_off f.config.profile (item_in f.config.profile frame.payload)) g
 
-    by_manager : (b : Bool) → is_manager frame.session ≡ b → (cond b (answers com_id frame.session (to_manager f com_id (message_in frame.payload))) (to_session f com_id frame.session frame.payload (session_named f com_id frame.session))).denied ≡ Some why → IsDenied f act why
-    by_manager true is g = manager-is f act why com_id frame sent is (message_in frame.payload) refl g
+    by_read : is_manager frame.session ≡ true → (b : Bool) → (cond b (ignores Discarded) (answers com_id frame.session (to_manager f com_id (message_in frame.payload)))).denied ≡ Some why → IsDenied f act why
+    by_read is true g = absurd (nothing g)
+    by_read is false g = manager-is f act why com_id frame sent is (message_in frame.payload) refl g
+
+    by_manager : (b : Bool) → is_manager frame.session ≡ b → (cond b (manager_event f com_id frame.session (message_in frame.payload)) (to_session f com_id frame.session frame.payload (session_named f com_id frame.session))).denied ≡ Some why → IsDenied f act why
+    by_manager true is g = by_read is (is_discarded f.config.profile (message_in frame.payload)) g
     by_manager false is g = by_session is (session_named f com_id frame.session) refl g
 
 send-is : (f : Facts) (act : Act) (why : Why) (protocol com_id blocks : ℕ) (dma : Bool) (looked : IsLookedAt f act (Send protocol com_id blocks dma) None) → (send_item f protocol com_id blocks looked.payload).denied ≡ Some why → IsDenied f act why

@@ -13,7 +13,7 @@ use Rattle.compacket.specs.declared.session.Session.{Session}
 use Rattle.compacket.specs.declared.error.FrameError.{FrameError}
 use Rattle.compacket.specs.Frames.{Frame, reading as frame_in}
 use Rattle.tcg_tokens.specs.declared.error.TokenError.{TokenError}
-use Rattle.tcg_tokens.specs.Message.{Message}
+use Rattle.tcg_tokens.specs.Message.{Message, end_session}
 use Rattle.tcg_tokens.specs.Reading.{reading as message_in}
 use Rattle.trusted_cmds.specs.declared.command.Command.{Command}
 use Rattle.trusted_cmds.specs.declared.command.Command.TheVariants.{ReadQueued, WriteQueued, ReadDma, WriteDma, Send, Receive, ReadLog10}
@@ -23,13 +23,13 @@ use Rattle.locking.specs.declared.ranges.Verdict.TheVariants.{Serve, Shadow, Den
 use Rattle.sessions.specs.Deeds.{Begun, SessionDeed}
 use Rattle.trusted_cmds.specs.BlockSid.{is_block_sid, block_asked, is_blocked}
 use Rattle.device_data.specs.Discovery.{has_owner}
-use Rattle.history.specs.Events.{Response, HeldCommand, Deed, Nothing, InSession, Wrote, Event, or_else, WasReset, did, BlockedSid}
+use Rattle.history.specs.Events.{Response, HeldCommand, Deed, Nothing, InSession, Wrote, Event, or_else, WasReset, did, ignores, BlockedSid}
 use Rattle.history.specs.Facts.{Facts, is_named, if_named, session_named}
 use Rattle.history.specs.Decisions.{aborted, not_found, fails, refuses, fails_queue, on_drive, verdict_on, queued_by, queued_transfer, admitted, unqueued_by, unqueued_transfer, is_trusted, is_session_com_id, discovery_com_id, received, while_failed, is_busy, completed_by, completed, resets, is_received, unreceived}
-use Rattle.history.specs.Tcg.{answers, to_manager, in_session, is_manager, to_session, framed, sent, unqueued, known, commanded, command_read, item_in, blocks_sid, unsent, is_sent}
+use Rattle.history.specs.Tcg.{answers, to_manager, in_session, is_manager, breaks_off, broken_off, is_discarded, to_session, framed, sent, unqueued, known, commanded, command_read, item_in, blocks_sid, unsent, is_sent}
 use Rattle.history.specs.History.{Act, Accept, Complete, Reset, SoftwareReset, event_by}
 use Rattle.sp_cells.specs.Resets.{programmatic}
-use Rattle.audit.specs.declared.rules.rule.Rule.TheVariants.{NoCommand, Unreadable, Mixed, BeyondDrive, SidKept}
+use Rattle.audit.specs.declared.rules.rule.Rule.TheVariants.{NoCommand, Unreadable, Mixed, BeyondDrive, SidKept, Discarded}
 
 pub record OfManager (f : Facts) (deed : SessionDeed) : Type 0 where
   pub com_id : ℕ
@@ -69,6 +69,10 @@ of_manager f com_id session read = record { from = λ d r is. inl (record { com_
 of_session : (f : Facts) (com_id : ℕ) (named : Session) (sp : Sp) (session : Begun) (read : Result Message TokenError) → f.session_on sp ≡ Some session → Comes f (answers com_id named (in_session f session read))
 of_session f com_id named sp session read lives = record { from = λ d r is. inr (record { sp = sp; session = session; lives = lives; read = read; does = deed-same is }) }
 
+-- what ends a session without a word does what the item does that ends it
+off_session : (f : Facts) (sp : Sp) (session : Begun) → f.session_on sp ≡ Some session → Comes f (broken_off session.sp)
+off_session f sp session lives = record { from = λ d r is. inr (record { sp = sp; session = session; lives = lives; read = Ok end_session; does = deed-same is }) }
+
 -- the session that a packet names lives
 if_named-is : (com_id : ℕ) (named : Session) (x : Option Begun) (s : Begun) → if_named com_id named x ≡ Some s → x ≡ Some s
 if_named-is com_id named None s h = cc
@@ -90,10 +94,13 @@ named-lives f com_id named s h = elim (first-or (if_named com_id named (f.sessio
 
 to_session-comes : (f : Facts) (com_id : ℕ) (named : Session) (payload : List ℕ) (s : Option Begun) → session_named f com_id named ≡ s → Comes f (to_session f com_id named payload s)
 to_session-comes f com_id named payload None h = no_item refl
-to_session-comes f com_id named payload (Some s) h = let x = named-lives f com_id named s h in of_session f com_id named x.0 s (item_in f.config.profile payload) x.1
+to_session-comes f com_id named payload (Some s) h =
+    let x = named-lives f com_id named s h in
+    let item = item_in f.config.profile payload in
+    either f (breaks_off f.config.profile item) (broken_off s.sp) (answers com_id named (in_session f s item)) (off_session f x.0 s x.1) (of_session f com_id named x.0 s item x.1)
 
 framed-comes : (f : Facts) (com_id : ℕ) (frame : Frame) → Comes f (framed f com_id frame)
-framed-comes f com_id frame = either f (is_manager frame.session) _ _ (of_manager f com_id frame.session (message_in frame.payload)) (to_session-comes f com_id frame.session frame.payload (session_named f com_id frame.session) refl)
+framed-comes f com_id frame = either f (is_manager frame.session) _ _ (either f (is_discarded f.config.profile (message_in frame.payload)) (ignores Discarded) _ (no_item refl) (of_manager f com_id frame.session (message_in frame.payload))) (to_session-comes f com_id frame.session frame.payload (session_named f com_id frame.session) refl)
 
 sent-comes : (f : Facts) (com_id : ℕ) (r : Result Frame FrameError) → Comes f (sent f com_id r)
 sent-comes f com_id (Err e) = no_item refl

@@ -37,7 +37,7 @@ use Rattle.history.specs.Events.{Event, Nothing, did, WasReset, ignores}
 use Rattle.history.specs.Items.{Items}
 use Rattle.history.specs.Facts.{Facts, standing, session_named}
 use Rattle.history.specs.Decisions.{admitted, fails_queue, refuses, aborted, while_failed, is_busy, resets, is_trusted, is_session_com_id, unqueued_of, known_of, commanded_of}
-use Rattle.history.specs.Tcg.{answers, to_manager, to_session, in_session, framed, sent, send, tcg, blocks_sid, send_item, unsent, is_free_for}
+use Rattle.history.specs.Tcg.{answers, item_event, manager_event, to_session, in_session, framed, sent, send, tcg, blocks_sid, send_item, unsent, is_free_for}
 use Rattle.methods.specs.Calls.{outcome_of, tried_in}
 use Rattle.history.specs.History.{Act, event_by, event_in}
 use Rattle.history.specs.MethodLaws.{ActEffectLaw, IsSent, CallLaw}
@@ -135,9 +135,9 @@ sent_law f act com_id frame c =
 pub call_law : CallLaw
 call_law f act session object method args c =
     sent_law f act c.com_id c.frame c.sent
-    ∙ ap (λ b. cond b (answers c.com_id c.frame.session (to_manager f c.com_id (message_in c.frame.payload))) (to_session f c.com_id c.frame.session c.frame.payload (session_named f c.com_id c.frame.session))) c.no_manager
+    ∙ ap (λ b. cond b (manager_event f c.com_id c.frame.session (message_in c.frame.payload)) (to_session f c.com_id c.frame.session c.frame.payload (session_named f c.com_id c.frame.session))) c.no_manager
     ∙ ap (to_session f c.com_id c.frame.session c.frame.payload) c.named
-    ∙ ap (λ r. answers c.com_id c.frame.session (in_session f session r)) c.calls
+    ∙ ap (item_event f c.com_id c.frame.session session) c.calls
 
 -- the reason of an access denial is none of an attempt
 abbrev of_access : Why → Bool

@@ -13,9 +13,9 @@ use Rattle.history.specs.Answers.{is_holding}
 use Rattle.history.specs.Events.{Deed, Nothing, InSession, OfQueue, Wrote, Took, BlockedSid, Chose, WasReset, Event, did, ignores}
 use Rattle.history.specs.Facts.{Facts, session_named}
 use Rattle.history.specs.Decisions.{refuses, is_trusted, is_session_com_id}
-use Rattle.history.specs.Tcg.{answers, to_manager, is_manager, to_session, framed, sent, tcg, blocks_sid, send_item, unsent, is_sent}
+use Rattle.history.specs.Tcg.{answers, to_manager, in_session, item_in, breaks_off, broken_off, is_discarded, manager_event, is_manager, to_session, framed, sent, tcg, blocks_sid, send_item, unsent, is_sent}
 use Rattle.history.specs.Quiet.{is_quiet, IsQuiet}
-use Rattle.audit.specs.declared.rules.rule.Rule.TheVariants.{SidKept, NoFrame}
+use Rattle.audit.specs.declared.rules.rule.Rule.TheVariants.{SidKept, NoFrame, Discarded}
 
 either : (b : Bool) (x y : Event) → is_quiet x.deed ≡ true → is_quiet y.deed ≡ true → is_quiet (cond b x y).deed ≡ true
 either true x y h g = h
@@ -23,13 +23,13 @@ either false x y h g = g
 
 to_session-quiet : (f : Facts) (com_id : ℕ) (named : Session) (payload : List ℕ) (x : Option Begun) → is_quiet (to_session f com_id named payload x).deed ≡ true
 to_session-quiet f com_id named payload None = refl
-to_session-quiet f com_id named payload (Some s) = refl
+to_session-quiet f com_id named payload (Some s) = either (breaks_off f.config.profile (item_in f.config.profile payload)) (broken_off s.sp) (answers com_id named (in_session f s (item_in f.config.profile payload))) refl refl
 
 sent-quiet : (f : Facts) (com_id : ℕ) (r : Result Frame FrameError) → is_quiet (sent f com_id r).deed ≡ true
 sent-quiet f com_id (Err e) = refl
 sent-quiet f com_id (Ok frame) =
     either (frame.com_id == com_id) (framed f com_id frame) (ignores NoFrame)
-    (either (is_manager frame.session) (answers com_id frame.session (to_manager f com_id (message_in frame.payload))) (to_session f com_id frame.session frame.payload (session_named f com_id frame.session)) refl (to_session-quiet f com_id frame.session frame.payload (session_named f com_id frame.session)))
+    (either (is_manager frame.session) (manager_event f com_id frame.session (message_in frame.payload)) (to_session f com_id frame.session frame.payload (session_named f com_id frame.session)) (either (is_discarded f.config.profile (message_in frame.payload)) (ignores Discarded) (answers com_id frame.session (to_manager f com_id (message_in frame.payload))) refl refl) (to_session-quiet f com_id frame.session frame.payload (session_named f com_id frame.session)))
     refl
 
 pub tcg_quiet : IsQuiet tcg

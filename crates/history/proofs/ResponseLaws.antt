@@ -19,18 +19,19 @@ use Rattle.locking.specs.declared.ranges.Verdict.TheVariants.{Serve, Shadow, Den
 use Rattle.sessions.specs.Deeds.{Begun}
 use Rattle.trusted_cmds.specs.BlockSid.{is_block_sid, block_asked, is_blocked}
 use Rattle.device_data.specs.Discovery.{has_owner}
-use Rattle.history.specs.Events.{did, HeldCommand, Deed, Nothing, InSession, Wrote, Event, or_else, OfQueue, Took, BlockedSid, Chose, WasReset, latest, ignores}
+use Rattle.history.specs.Events.{did, HeldCommand, Deed, Nothing, InSession, Left, Silent, Wrote, Event, or_else, OfQueue, Took, BlockedSid, Chose, WasReset, latest, ignores}
 use Rattle.history.specs.Facts.{Facts, facts, session_named}
 use Rattle.history.specs.Decisions.{aborted, not_found, fails, refuses, fails_queue, on_drive, verdict_on, queued_by, queued_transfer, admitted, unqueued_by, unqueued_transfer, is_trusted, is_session_com_id, discovery_com_id, received, while_failed, is_busy, completed_by, completed, resets, is_received, unreceived}
-use Rattle.history.specs.Tcg.{answers, to_manager, is_manager, to_session, framed, sent, unqueued, known, commanded, command_read, blocks_sid, unsent, is_sent, is_free_for}
+use Rattle.history.specs.Tcg.{answers, to_manager, in_session, item_in, breaks_off, broken_off, is_discarded, manager_event, is_manager, to_session, framed, sent, unqueued, known, commanded, command_read, blocks_sid, unsent, is_sent, is_free_for}
 use Rattle.history.specs.History.{Act, Accept, Complete, Reset, SoftwareReset, event_by, event, log}
 use Rattle.history.specs.Readers.{waits, waiting}
 use Rattle.history.specs.Bounds.{ResponseLaw}
 use Rattle.sp_cells.specs.Resets.{programmatic}
-use Rattle.audit.specs.declared.rules.rule.Rule.TheVariants.{NoCommand, Unreadable, Mixed, BeyondDrive, SidKept, NoFrame}
+use Rattle.audit.specs.declared.rules.rule.Rule.TheVariants.{NoCommand, Unreadable, Mixed, BeyondDrive, SidKept, NoFrame, Discarded}
 
 abbrev on_session : Deed → Bool
-on_session (InSession deed response) = is_session_com_id response.com_id
+on_session (InSession deed (Left its bytes)) = is_session_com_id its
+on_session (InSession deed Silent) = true
 on_session _ = true
 
 either : (b : Bool) (e g : Event) → (b ≡ true → on_session e.deed ≡ true) → on_session g.deed ≡ true → on_session (cond b e g).deed ≡ true
@@ -39,11 +40,12 @@ either false e g h k = k
 
 to_session-on : (f : Facts) (com_id : ℕ) (named : Session) (payload : List ℕ) (s : Option Begun) → is_session_com_id com_id ≡ true → on_session (to_session f com_id named payload s).deed ≡ true
 to_session-on f com_id named payload None h = refl
-to_session-on f com_id named payload (Some s) h = h
+to_session-on f com_id named payload (Some s) h = either (breaks_off f.config.profile (item_in f.config.profile payload)) (broken_off s.sp) (answers com_id named (in_session f s (item_in f.config.profile payload))) (λ is. refl) h
 
 framed-on : (f : Facts) (com_id : ℕ) (frame : Frame) → is_session_com_id com_id ≡ true → on_session (framed f com_id frame).deed ≡ true
 framed-on f com_id frame h =
-    either (is_manager frame.session) (answers com_id frame.session (to_manager f com_id (message_in frame.payload))) _ (λ is. h) (to_session-on f com_id frame.session frame.payload (session_named f com_id frame.session) h)
+    either (is_manager frame.session) (manager_event f com_id frame.session (message_in frame.payload)) _
+    (λ is. either (is_discarded f.config.profile (message_in frame.payload)) (ignores Discarded) (answers com_id frame.session (to_manager f com_id (message_in frame.payload))) (λ of. refl) h) (to_session-on f com_id frame.session frame.payload (session_named f com_id frame.session) h)
 
 sent-on : (f : Facts) (com_id : ℕ) (r : Result Frame FrameError) → is_session_com_id com_id ≡ true → on_session (sent f com_id r).deed ≡ true
 sent-on f com_id (Err e) h = refl
@@ -140,7 +142,8 @@ taken com_id its past true h = refl
 taken com_id its past false h = h
 
 left-none : (com_id : ℕ) (d : Deed) (past : List Event) → is_session_com_id com_id ≡ false → on_session d ≡ true → waiting past com_id ≡ None → left com_id (waits com_id d) past ≡ None
-left-none com_id (InSession deed response) past other on h = ap (λ b. left com_id (cond b (Some (Some response.bytes)) None) past) (apart com_id response.com_id other on) ∙ h
+left-none com_id (InSession deed (Left its bytes)) past other on h = ap (λ b. left com_id (cond b (Some (Some bytes)) None) past) (apart com_id its other on) ∙ h
+left-none com_id (InSession deed Silent) past other on h = h
 left-none com_id (Took its) past other on h = taken com_id its past (its == com_id) h
 left-none com_id (BlockedSid block) past other on h = h
 left-none com_id (Chose feature) past other on h = h

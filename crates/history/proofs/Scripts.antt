@@ -15,7 +15,7 @@ use Rattle.tcg_tokens.specs.Tree.{Tree, Trees, trees_of}
 use Rattle.tcg_tokens.specs.Tree as tree
 use Rattle.history.specs.Opening.{Origin, factory_origin, activated_origin, with_range}
 use Rattle.sp_cells.specs.Names.{session_manager, start_session}
-use Rattle.history.specs.Events.{Event, Deed, InSession}
+use Rattle.history.specs.Events.{Event, Deed, InSession, Left}
 use Rattle.device_data.specs.ErrorLog.{sized}
 use Rattle.history.specs.History.{Act, Accept, log}
 use Rattle.audit.specs.declared.rules.rule.Rule.{Rule}
@@ -104,7 +104,7 @@ abbrev pub tokens_in : List ℕ → List ℕ
 tokens_in frame = take (token_length frame) (drop 56 frame)
 
 abbrev pub reply_in : Deed → List (List ℕ)
-reply_in (InSession deed response) = tokens_in response.bytes ∷ []
+reply_in (InSession deed (Left com_id bytes)) = tokens_in bytes ∷ []
 reply_in _ = []
 
 -- The tokens of the responses that acts left, their reasons of denials and their errors, in the order of time.

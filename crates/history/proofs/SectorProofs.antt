@@ -27,7 +27,7 @@ use Rattle.history.specs.Opening.{Origin}
 use Rattle.history.specs.Events.{did, HeldCommand, Deed, Nothing, InSession, Wrote, Event, or_else, OfQueue, Took, BlockedSid, Chose, WasReset, latest, CompletedWrite, Completed, Held, QueueFailed, QueueMended, QueueEnded, ignores}
 use Rattle.history.specs.Facts.{Facts, facts, session_named}
 use Rattle.history.specs.Decisions.{aborted, not_found, fails, refuses, fails_queue, on_drive, verdict_on, queued_by, queued_transfer, admitted, unqueued_by, unqueued_transfer, is_trusted, is_session_com_id, discovery_com_id, received, while_failed, is_busy, completed_by, completed, resets, is_received, unreceived}
-use Rattle.history.specs.Tcg.{answers, to_manager, is_manager, to_session, framed, sent, unqueued, known, commanded, tcg, command_read, blocks_sid, unsent, is_sent, is_free_for}
+use Rattle.history.specs.Tcg.{answers, to_manager, in_session, item_in, breaks_off, broken_off, is_discarded, manager_event, is_manager, to_session, framed, sent, unqueued, known, commanded, tcg, command_read, blocks_sid, unsent, is_sent, is_free_for}
 use Rattle.history.specs.History.{Act, Accept, Complete, Reset, SoftwareReset, event_by, log}
 use Rattle.shadow_mbr.specs.Erasure.{is_erased}
 use Rattle.sessions.specs.Deeds.{erased_by}
@@ -43,7 +43,7 @@ use Rattle.history.proofs.HeldProofs.{held_law}
 use Rattle.history.proofs.WriteProofs.{write_law}
 use Rattle.history.proofs.Payloads.{payload-of-command}
 use Rattle.sp_cells.specs.Resets.{programmatic}
-use Rattle.audit.specs.declared.rules.rule.Rule.TheVariants.{NoCommand, Unreadable, Mixed, BeyondDrive, SidKept, NoFrame}
+use Rattle.audit.specs.declared.rules.rule.Rule.TheVariants.{NoCommand, Unreadable, Mixed, BeyondDrive, SidKept, NoFrame, Discarded}
 
 -- no accepted command completes a write
 abbrev quiet : Deed → Bool
@@ -56,11 +56,11 @@ either false e g h k = k
 
 to_session-quiet : (f : Facts) (com_id : ℕ) (named : Session) (payload : List ℕ) (s : Option Begun) → is_session_com_id com_id ≡ true → quiet (to_session f com_id named payload s).deed ≡ true
 to_session-quiet f com_id named payload None h = refl
-to_session-quiet f com_id named payload (Some s) h = refl
+to_session-quiet f com_id named payload (Some s) h = either (breaks_off f.config.profile (item_in f.config.profile payload)) (broken_off s.sp) (answers com_id named (in_session f s (item_in f.config.profile payload))) (λ is. refl) refl
 
 framed-quiet : (f : Facts) (com_id : ℕ) (frame : Frame) → is_session_com_id com_id ≡ true → quiet (framed f com_id frame).deed ≡ true
 framed-quiet f com_id frame h =
-    either (is_manager frame.session) (answers com_id frame.session (to_manager f com_id (message_in frame.payload))) _ (λ is. refl) (to_session-quiet f com_id frame.session frame.payload (session_named f com_id frame.session) h)
+    either (is_manager frame.session) (manager_event f com_id frame.session (message_in frame.payload)) _ (λ is. either (is_discarded f.config.profile (message_in frame.payload)) (ignores Discarded) (answers com_id frame.session (to_manager f com_id (message_in frame.payload))) (λ of. refl) refl) (to_session-quiet f com_id frame.session frame.payload (session_named f com_id frame.session) h)
 
 sent-quiet : (f : Facts) (com_id : ℕ) (r : Result Frame FrameError) → is_session_com_id com_id ≡ true → quiet (sent f com_id r).deed ≡ true
 sent-quiet f com_id (Err e) h = refl

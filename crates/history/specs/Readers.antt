@@ -28,7 +28,7 @@ use Rattle.history.specs.Changes.{apply_all, byte_in, with_tries}
 use Rattle.device_data.specs.declared.log_page.Failure.{Failure}
 use Rattle.device_data.specs.declared.settings.Settings.{Settings}
 use Rattle.device_data.specs.Settings.{first_settings, with_feature, settings_at_reset}
-use Rattle.history.specs.Events.{HeldCommand, QueueDeed, Held, Completed, CompletedWrite, QueueFailed, QueueMended, QueueEnded, Deed, InSession, OfQueue, Wrote, Took, WasReset, BlockedSid, Chose, Event, latest, since, every, count}
+use Rattle.history.specs.Events.{HeldCommand, QueueDeed, Held, Completed, CompletedWrite, QueueFailed, QueueMended, QueueEnded, Deed, InSession, OfQueue, Wrote, Took, WasReset, BlockedSid, Chose, Event, latest, since, every, count, Left, Silent}
 
 -- It speaks of this SP.
 abbrev pub on_sp : {A : Type 0} → Sp → Sp → A → Option A
@@ -333,8 +333,9 @@ failure past = unwrap_or (latest failing past) None
 -- Waiting responses, by their ComIDs (Core 2.01, section 3.3.10).
 
 abbrev pub waits : ℕ → Deed → Option (Option (List ℕ))
-waits com_id (InSession deed response) =
-    if response.com_id == com_id then Some (Some response.bytes) else None
+waits com_id (InSession deed (Left its bytes)) =
+    if its == com_id then Some (Some bytes) else None
+waits com_id (InSession deed Silent) = None
 waits com_id (Took its) = if its == com_id then Some None else None
 waits com_id (WasReset kind) = Some None
 waits com_id _ = None

@@ -39,12 +39,12 @@ use Rattle.sessions.specs.declared.opening.StartVerdict.TheVariants.{Refused, At
 use Rattle.sessions.specs.Gains.{first_held}
 use Rattle.sessions.specs.Starts.{opening_of, verdict, host_of, reply_to, denied_with, rule_of}
 use Rattle.audit.specs.declared.rules.rule.Rule.{Rule}
-use Rattle.audit.specs.declared.rules.rule.Rule.TheVariants.{NoMethod, NoItem, AlreadyOpen, NoneOpen, NoSession, NoFrame, SidKept, LongTransfer, Protocol, ComId, ResponseWaits}
+use Rattle.audit.specs.declared.rules.rule.Rule.TheVariants.{NoMethod, NoItem, AlreadyOpen, NoneOpen, NoSession, BrokenOff, Discarded, NoFrame, SidKept, LongTransfer, Protocol, ComId, ResponseWaits}
 use Rattle.sessions.specs.Properties.{max_com_packet_size, properties_message}
 use Rattle.methods.specs.Said.{refusal_of}
 use Rattle.methods.specs.Judgement.{Judgement, asked, judged}
 use Rattle.methods.specs.Calls.{outcome_of}
-use Rattle.history.specs.Events.{Nothing, InSession, BlockedSid, Event, did, ignores}
+use Rattle.history.specs.Events.{Nothing, InSession, Left, Silent, BlockedSid, Event, did, ignores}
 use Rattle.history.specs.Facts.{Facts, live, session_named, has_open, standing}
 use Rattle.device_data.specs.Discovery.{has_owner, discovery_of}
 use Rattle.device_data.specs.Identity.{identity_of}
@@ -59,10 +59,8 @@ use Rattle.history.specs.Answers.{block_of, data_read_of, answer_data_of, accept
 abbrev pub answers : ℕ → Session → Outcome → Event
 answers com_id session outcome = record {
   failed = None;
-  deed = InSession outcome.deed (record {
-    com_id = com_id;
-    bytes = frame_bytes com_id session (item_spelling_of outcome.said);
-  });
+  deed = InSession outcome.deed
+      (Left com_id (frame_bytes com_id session (item_spelling_of outcome.said)));
   denied = outcome.denied;
   rule = outcome.rule;
 }
@@ -158,16 +156,59 @@ abbrev pub item_in : Profile → List ℕ → Result Message TokenError
 item_in profile payload =
     if ends_session profile payload then Ok end_session else message_in payload
 
+-- Under the opal profile what is no item ends the session that it is sent to, and leaves no response (Opal SSC 2.01,
+-- section 3.3.4.1.3).
+abbrev pub is_opal : Profile → Bool
+is_opal Base = false
+is_opal Field = false
+is_opal Opal = true
+
+abbrev pub breaks_off : Profile → Result Message TokenError → Bool
+breaks_off profile (Ok (call object method args status)) = false
+breaks_off profile (Ok (begin n)) = false
+breaks_off profile (Ok (end n)) = false
+breaks_off profile (Ok end_session) = false
+breaks_off profile (Ok (reply results status)) = is_opal profile
+breaks_off profile (Err e) = is_opal profile
+
+abbrev pub broken_off : Sp → Event
+broken_off sp = record {
+  failed = None;
+  deed = InSession (Ended sp) Silent;
+  denied = None;
+  rule = Some BrokenOff;
+}
+
+abbrev pub item_event : Facts → ℕ → Session → Begun → Result Message TokenError → Event
+item_event f com_id named session item =
+    if breaks_off f.config.profile item then broken_off session.sp
+    else answers com_id named (in_session f session item)
+
 -- An item for no live session is taken, and leaves no response.
 abbrev pub to_session : Facts → ℕ → Session → List ℕ → Option Begun → Event
 to_session f com_id named payload None = ignores NoSession
 to_session f com_id named payload (Some session) =
-    answers com_id named (in_session f session (item_in f.config.profile payload))
+    item_event f com_id named session (item_in f.config.profile payload)
+
+-- And what is sent to the session manager, and calls neither of its methods, is discarded there (the same section).
+abbrev pub is_of_manager : Result Message TokenError → Bool
+is_of_manager (Ok (call object method args status)) =
+    is_method_of_manager properties (uid_of object) (uid_of method)
+    || is_method_of_manager start_session (uid_of object) (uid_of method)
+is_of_manager _ = false
+
+abbrev pub is_discarded : Profile → Result Message TokenError → Bool
+is_discarded profile item = is_opal profile && not (is_of_manager item)
+
+abbrev pub manager_event : Facts → ℕ → Session → Result Message TokenError → Event
+manager_event f com_id named item =
+    if is_discarded f.config.profile item then ignores Discarded
+    else answers com_id named (to_manager f com_id item)
 
 abbrev pub framed : Facts → ℕ → Frame → Event
 framed f com_id frame =
     if is_manager frame.session
-    then answers com_id frame.session (to_manager f com_id (message_in frame.payload))
+    then manager_event f com_id frame.session (message_in frame.payload)
     else to_session f com_id frame.session frame.payload (session_named f com_id frame.session)
 
 -- A frame that is none, or that names another ComID, is taken likewise.

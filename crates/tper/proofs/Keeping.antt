@@ -3,9 +3,10 @@ use Rattle.std.proofs.Common.{◌≡◌, ℕ, ◌*◌, ◌==◌, Bool, true, fal
 use Rattle.std.specs.Prelude.{unwrap_or, nat_le}
 use Rattle.compacket.specs.declared.session.Session.{Session}
 use Rattle.compacket.specs.Spelling.{frame_bytes}
-use Rattle.tcg_tokens.specs.Message.{Message, message}
+use Rattle.tcg_tokens.specs.Message.{Message, message, end_session}
 use Rattle.tcg_tokens.specs.Spelling.{item_spelling_of}
 use Rattle.sp_cells.specs.Config.{table_sectors}
+use Rattle.sp_cells.specs.declared.names.Sp.{Sp}
 use Rattle.sp_tables.specs.Contents.{Contents}
 use Rattle.shadow_mbr.specs.Stored.{StoredSectors as Bytes, sector_size, byte_at}
 use Rattle.transactions.specs.Stored.{Stored, new_store, after_reset}
@@ -19,8 +20,8 @@ use Rattle.history.specs.Agreement.{HasNoTries}
 use Rattle.history.specs.Events.{Event, Nothing, Took, WasReset, BlockedSid, did}
 use Rattle.history.specs.Readers.{waiting, waits}
 use Rattle.history.specs.Decisions.{received}
-use Rattle.history.specs.Tcg.{answers}
-use Rattle.sessions.specs.Deeds.{Outcome}
+use Rattle.history.specs.Tcg.{answers, broken_off}
+use Rattle.sessions.specs.Deeds.{Outcome, Ended, says}
 use Rattle.history.specs.KeptStore.{HasKnownRows, KeepsStore}
 use Rattle.sessions.specs.Made.{LeavesAll}
 use Rattle.history.proofs.KeptStoreOpenings.{store_opening_law}
@@ -44,6 +45,14 @@ answer-kept t u o past com_id session out said met responds k =
     (λ other. responds other
     ∙ ap (λ (m : Message). cond (com_id == other) (Some (frame_bytes com_id session (item_spelling_of m))) (response_at t.waiting other)) met.answer
     ∙ waits-there (com_id == other) (frame_bytes com_id session (item_spelling_of out.said)) (response_at t.waiting other)) k
+
+-- a session that ends without an answer
+pub broken-kept : (t u : Tper) (o : Origin) (past : List Event) (sp : Sp) (said : Answered)
+    → AnswersAs (says (Ended sp) end_session) said t.store u.store t.live u.live → u.waiting ≡ t.waiting
+    → Keeps t o past → Keeps u o (broken_off sp ∷ past)
+broken-kept t u o past sp said met waits k =
+    kept_after t u o past (broken_off sp) met.store met.sessions met.block
+    (λ com_id. ap (λ (w : List (Option (List ℕ))). response_at w com_id) waits) k
 
 pub answer-sent : (t u : Tper) (com_id : ℕ) (session : Session) (out : Outcome) (said : Answered) (s : Sent)
     → AnswersAs out said t.store u.store t.live u.live → s.denied ≡ said.denied → s.rule ≡ said.rule → s.erases ≡ said.erases

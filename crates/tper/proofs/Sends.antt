@@ -1,5 +1,5 @@
 -- What is sent: which event it is, and that what became of it keeps what the past says.
-use Rattle.std.proofs.Common.{◌≡◌, ℕ, ◌==◌, Bool, true, false, ◌&&◌, List, ◌∷◌, Option, Some, None, refl, sym, subst, ap, ◌∙◌, cond, eqb-true, eq-eqb}
+use Rattle.std.proofs.Common.{◌≡◌, ℕ, ◌==◌, Bool, true, false, ◌&&◌, List, ◌∷◌, Option, Some, None, refl, sym, subst, ap, ◌∙◌, cond, eqb-true, eq-eqb, ◌⊎◌, inl, inr}
 use Rattle.std.specs.Prelude.{Result, Ok, Err, IfOk, OnOk, option_map}
 use Rattle.sp_cells.specs.declared.names.Sp.{Sp}
 use Rattle.compacket.specs.declared.session.Session.{Session}
@@ -15,18 +15,18 @@ use Rattle.sessions.specs.Deeds.{Begun}
 use Rattle.history.specs.Events.{Event, Nothing, did, ignores}
 use Rattle.history.specs.Readers.{session_on}
 use Rattle.history.specs.Facts.{Facts, facts, session_named}
-use Rattle.history.specs.Tcg.{is_manager, answers, to_manager, in_session, to_session, framed, sent, item_in}
+use Rattle.history.specs.Tcg.{is_manager, answers, breaks_off, broken_off, is_discarded, manager_event, to_manager, in_session, to_session, framed, sent, item_in}
 use Rattle.history.specs.History.{Act, log}
 use Rattle.history.specs.KeptSessions.{KeepsSessions, id_of}
 use Rattle.history.proofs.Items.{named-lives}
 use Rattle.history.proofs.Words.{sp-same}
 use Rattle.history.proofs.KeptSessionsNamed.{named_law}
 use Rattle.tper.specs.declared.trusted.Sent.{Sent}
-use Rattle.tper.specs.Items.{OfManager, OfSession}
-use Rattle.tper.specs.Tper.{Tper, Keeps, IsToldOfSend, Handles}
+use Rattle.sp_cells.specs.Config.{Config}
+use Rattle.tper.specs.Tper.{Tper, Keeps, IsToldOfSend, Manages, Serves}
 use Rattle.tper.proofs.KeptBeside.{spares, kept_beside}
-use Rattle.tper.proofs.Keeping.{answer-kept, answer-sent}
-use Rattle.audit.specs.declared.rules.rule.Rule.TheVariants.{NoFrame, NoSession}
+use Rattle.tper.proofs.Keeping.{answer-kept, answer-sent, broken-kept}
+use Rattle.audit.specs.declared.rules.rule.Rule.TheVariants.{NoFrame, NoSession, Discarded}
 use Rattle.audit.specs.declared.rules.rule.Rule.{Rule}
 
 pub on-ok : {A E : Type 0} (r : Result A E) (P : A → Type 0) (Q : Type 0) → IfOk r P → ((x : A) → P x → Q) → OnOk r Q
@@ -71,16 +71,16 @@ own-frame f com_id read frame h =
     ap (λ (r : Result Frame FrameError). sent f com_id r) h.reads ∙ ap (λ (b : Bool). cond b (framed f com_id frame) (ignores NoFrame)) (eq-eqb frame.com_id com_id h.own)
 
 by-manager : (f : Facts) (com_id : ℕ) (read : Result Frame FrameError) (frame : Frame) → IsFor read com_id frame → is_manager frame.session ≡ true
-    → sent f com_id read ≡ answers com_id frame.session (to_manager f com_id (message_in frame.payload))
+    → sent f com_id read ≡ manager_event f com_id frame.session (message_in frame.payload)
 by-manager f com_id read frame h m =
     own-frame f com_id read frame h
-    ∙ ap (λ (b : Bool). cond b (answers com_id frame.session (to_manager f com_id (message_in frame.payload))) (to_session f com_id frame.session frame.payload (session_named f com_id frame.session))) m
+    ∙ ap (λ (b : Bool). cond b (manager_event f com_id frame.session (message_in frame.payload)) (to_session f com_id frame.session frame.payload (session_named f com_id frame.session))) m
 
 by-session : (f : Facts) (com_id : ℕ) (read : Result Frame FrameError) (frame : Frame) (x : Option Begun) → IsFor read com_id frame → is_manager frame.session ≡ false → session_named f com_id frame.session ≡ x
     → sent f com_id read ≡ to_session f com_id frame.session frame.payload x
 by-session f com_id read frame x h m named =
     own-frame f com_id read frame h
-    ∙ ap (λ (b : Bool). cond b (answers com_id frame.session (to_manager f com_id (message_in frame.payload))) (to_session f com_id frame.session frame.payload (session_named f com_id frame.session))) m
+    ∙ ap (λ (b : Bool). cond b (manager_event f com_id frame.session (message_in frame.payload)) (to_session f com_id frame.session frame.payload (session_named f com_id frame.session))) m
     ∙ ap (λ (s : Option Begun). to_session f com_id frame.session frame.payload s) named
 
 -- ---- which session it is
@@ -160,38 +160,67 @@ no-manager session n = by (session.tsn == 0) (session.hsn == 0) refl refl
 -- ---- what became of it
 
 abbrev pub ByManager : Tper → Tper → ℕ → Frame → Sent → Type 0
-ByManager t u com_id frame s = Handles (λ said. OfManager (λ f. to_manager f com_id (message_in frame.payload)) said t.store u.store t.live u.live) com_id frame.session s t u
+ByManager t u com_id frame s = Manages com_id frame.session frame.payload s t u
 
 abbrev pub BySession : Tper → Tper → ℕ → Frame → SessionId → Sent → Type 0
-BySession t u com_id frame id s = Handles (λ said. OfSession (λ f its. in_session f its (item_in f.config.profile frame.payload)) id said t.store u.store t.live u.live) com_id frame.session s t u
+BySession t u com_id frame id s = Serves com_id frame.session id frame.payload s t u
+
+-- what is discarded, and what is not, by what is kept and by the past
+manager-is-event : (t : Tper) (o : Origin) (past : List Event) (com_id : ℕ) (read : Result Frame FrameError) (frame : Frame) (b : Bool) → IsFor read com_id frame → is_manager frame.session ≡ true → Keeps t o past → is_discarded t.store.config.profile (message_in frame.payload) ≡ b
+    → sent (facts o past) com_id read ≡ cond b (ignores Discarded) (answers com_id frame.session (to_manager (facts o past) com_id (message_in frame.payload)))
+manager-is-event t o past com_id read frame b h m k is =
+    by-manager (facts o past) com_id read frame h m
+    ∙ ap (λ (x : Bool). cond x (ignores Discarded) (answers com_id frame.session (to_manager (facts o past) com_id (message_in frame.payload))))
+    (sym (ap (λ (config : Config). is_discarded config.profile (message_in frame.payload)) k.store.config) ∙ is)
+
+session-is-event : (t : Tper) (o : Origin) (past : List Event) (com_id : ℕ) (read : Result Frame FrameError) (frame : Frame) (its : Begun) (b : Bool) → IsFor read com_id frame → is_manager frame.session ≡ false → session_named (facts o past) com_id frame.session ≡ Some its → Keeps t o past
+    → breaks_off t.store.config.profile (item_in t.store.config.profile frame.payload) ≡ b
+    → sent (facts o past) com_id read ≡ cond b (broken_off its.sp) (answers com_id frame.session (in_session (facts o past) its (item_in (facts o past).config.profile frame.payload)))
+session-is-event t o past com_id read frame its b h m named k is =
+    by-session (facts o past) com_id read frame (Some its) h m named
+    ∙ ap (λ (x : Bool). cond x (broken_off its.sp) (answers com_id frame.session (in_session (facts o past) its (item_in (facts o past).config.profile frame.payload))))
+    (sym (ap (λ (config : Config). breaks_off config.profile (item_in config.profile frame.payload)) k.store.config) ∙ is)
 
 pub manager-kept : (t u : Tper) (o : Origin) (acts : List Act) (com_id : ℕ) (read : Result Frame FrameError) (frame : Frame) (s : Sent) → IsFor read com_id frame → is_manager frame.session ≡ true
     → ByManager t u com_id frame s → Keeps t o (log o acts) → Keeps u o (sent (facts o (log o acts)) com_id read ∷ log o acts)
-manager-kept t u o acts com_id read frame s h m its k =
-    subst (λ (e : Event). Keeps u o (e ∷ log o acts)) (sym (by-manager (facts o (log o acts)) com_id read frame h m))
-    (answer-kept t u o (log o acts) com_id frame.session _ its.said (its.met o (log o acts) k.store k.sessions k.block) its.responds k)
+manager-kept t u o acts com_id read frame s h m (inl its) k =
+    subst (λ (x : Tper). Keeps x o (sent (facts o (log o acts)) com_id read ∷ log o acts)) (sym its.1.unchanged)
+    (nothing-kept t o (log o acts) _ Discarded (manager-is-event t o (log o acts) com_id read frame true h m k its.0) k)
+manager-kept t u o acts com_id read frame s h m (inr its) k =
+    subst (λ (e : Event). Keeps u o (e ∷ log o acts)) (sym (manager-is-event t o (log o acts) com_id read frame false h m k its.0))
+    (answer-kept t u o (log o acts) com_id frame.session _ its.1.said (its.1.met o (log o acts) k.store k.sessions k.block) its.1.responds k)
 
 pub manager-sent : (t u : Tper) (o : Origin) (acts : List Act) (com_id : ℕ) (read : Result Frame FrameError) (frame : Frame) (s : Sent) → IsFor read com_id frame → is_manager frame.session ≡ true
     → ByManager t u com_id frame s → Keeps t o (log o acts) → IsToldOfSend (sent (facts o (log o acts)) com_id read) s
-manager-sent t u o acts com_id read frame s h m its k =
-    subst (λ (e : Event). IsToldOfSend e s) (sym (by-manager (facts o (log o acts)) com_id read frame h m))
-    (answer-sent t u com_id frame.session _ its.said s (its.met o (log o acts) k.store k.sessions k.block) its.denied its.rule its.erases)
+manager-sent t u o acts com_id read frame s h m (inl its) k =
+    nothing-sent _ Discarded s its.1.denied its.1.rule its.1.erases (manager-is-event t o (log o acts) com_id read frame true h m k its.0)
+manager-sent t u o acts com_id read frame s h m (inr its) k =
+    subst (λ (e : Event). IsToldOfSend e s) (sym (manager-is-event t o (log o acts) com_id read frame false h m k its.0))
+    (answer-sent t u com_id frame.session _ its.1.said s (its.1.met o (log o acts) k.store k.sessions k.block) its.1.denied its.1.rule its.1.erases)
 
 pub session-kept : (t u : Tper) (o : Origin) (acts : List Act) (com_id : ℕ) (read : Result Frame FrameError) (frame : Frame) (id : SessionId) (s : Sent) → IsFor read com_id frame → is_manager frame.session ≡ false
     → found_at t.live com_id frame.session ≡ Some id
     → BySession t u com_id frame id s → Keeps t o (log o acts) → Keeps u o (sent (facts o (log o acts)) com_id read ∷ log o acts)
-session-kept t u o acts com_id read frame id s h m named its k =
+session-kept t u o acts com_id read frame id s h m named (inl its) k =
     let n = somebody o (log o acts) t.live com_id frame.session id k.sessions named in
-    subst (λ (e : Event). Keeps u o (e ∷ log o acts)) (sym (by-session (facts o (log o acts)) com_id read frame (Some n.its) h m n.by_past))
-    (answer-kept t u o (log o acts) com_id frame.session _ its.said (its.met o acts n.its k.store k.sessions k.block n.lives n.is) its.responds k)
+    subst (λ (e : Event). Keeps u o (e ∷ log o acts)) (sym (session-is-event t o (log o acts) com_id read frame n.its true h m n.by_past k its.0))
+    (broken-kept t u o (log o acts) n.its.sp its.1.said (its.1.met o acts n.its k.store k.sessions k.block n.lives n.is) its.1.waiting k)
+session-kept t u o acts com_id read frame id s h m named (inr its) k =
+    let n = somebody o (log o acts) t.live com_id frame.session id k.sessions named in
+    subst (λ (e : Event). Keeps u o (e ∷ log o acts)) (sym (session-is-event t o (log o acts) com_id read frame n.its false h m n.by_past k its.0))
+    (answer-kept t u o (log o acts) com_id frame.session _ its.1.said (its.1.met o acts n.its k.store k.sessions k.block n.lives n.is) its.1.responds k)
 
 pub session-sent : (t u : Tper) (o : Origin) (acts : List Act) (com_id : ℕ) (read : Result Frame FrameError) (frame : Frame) (id : SessionId) (s : Sent) → IsFor read com_id frame → is_manager frame.session ≡ false
     → found_at t.live com_id frame.session ≡ Some id
     → BySession t u com_id frame id s → Keeps t o (log o acts) → IsToldOfSend (sent (facts o (log o acts)) com_id read) s
-session-sent t u o acts com_id read frame id s h m named its k =
+session-sent t u o acts com_id read frame id s h m named (inl its) k =
     let n = somebody o (log o acts) t.live com_id frame.session id k.sessions named in
-    subst (λ (e : Event). IsToldOfSend e s) (sym (by-session (facts o (log o acts)) com_id read frame (Some n.its) h m n.by_past))
-    (answer-sent t u com_id frame.session _ its.said s (its.met o acts n.its k.store k.sessions k.block n.lives n.is) its.denied its.rule its.erases)
+    subst (λ (e : Event). IsToldOfSend e s) (sym (session-is-event t o (log o acts) com_id read frame n.its true h m n.by_past k its.0))
+    (record { failed = refl; denied = its.1.denied; rule = its.1.rule; erases = its.1.erases })
+session-sent t u o acts com_id read frame id s h m named (inr its) k =
+    let n = somebody o (log o acts) t.live com_id frame.session id k.sessions named in
+    subst (λ (e : Event). IsToldOfSend e s) (sym (session-is-event t o (log o acts) com_id read frame n.its false h m n.by_past k its.0))
+    (answer-sent t u com_id frame.session _ its.1.said s (its.1.met o acts n.its k.store k.sessions k.block n.lives n.is) its.1.denied its.1.rule its.1.erases)
 
 pub nobody-named : (t : Tper) (o : Origin) (past : List Event) (com_id : ℕ) (read : Result Frame FrameError) (frame : Frame) → IsFor read com_id frame → is_manager frame.session ≡ false
     → found_at t.live com_id frame.session ≡ None

@@ -1,5 +1,5 @@
 -- What is kept behind the ComIDs, and when it keeps what the past says.
-use Rattle.std.specs.Prelude.{◌≡◌, ◌==◌, ◌&&◌, ℕ, ◌-◌, Bool, false, nat_le, List, length, slice_index_or, Option, None, Some, if◌then◌else◌}
+use Rattle.std.specs.Prelude.{◌≡◌, ◌⊎◌, ◌==◌, ◌&&◌, ℕ, ◌-◌, Bool, true, false, nat_le, List, length, slice_index_or, Option, None, Some, if◌then◌else◌}
 use Rattle.transactions.specs.Stored.{Stored}
 use Rattle.device_data.specs.Discovery.{first_com_id}
 use Rattle.sessions.specs.Live.{Live}
@@ -9,12 +9,18 @@ use Rattle.history.specs.Readers.{waiting, sid_block}
 use Rattle.history.specs.Decisions.{is_session_com_id}
 use Rattle.history.specs.KeptStore.{KeepsStore}
 use Rattle.history.specs.KeptSessions.{KeepsSessions}
-use Rattle.sessions.specs.Deeds.{erased_by}
+use Rattle.sessions.specs.Deeds.{Ended, says, erased_by}
+use Rattle.audit.specs.declared.rules.rule.Rule.{Rule}
+use Rattle.audit.specs.declared.rules.rule.Rule.TheVariants.{BrokenOff, Discarded}
+use Rattle.transactions.specs.declared.change.SessionId.{SessionId}
+use Rattle.history.specs.Tcg.{to_manager, in_session, item_in, breaks_off, is_discarded}
+use Rattle.tper.specs.Items.{OfManager, OfSession}
 use Rattle.shadow_mbr.specs.declared.erasure.Erasure.{Erasure}
 use Rattle.shadow_mbr.specs.Erasure.{no_sectors}
 use Rattle.compacket.specs.declared.session.Session.{Session}
 use Rattle.compacket.specs.Spelling.{frame_bytes}
-use Rattle.tcg_tokens.specs.Message.{Message, message}
+use Rattle.tcg_tokens.specs.Message.{Message, message, end_session}
+use Rattle.tcg_tokens.specs.Reading.{reading as message_in}
 use Rattle.tcg_tokens.specs.Spelling.{item_spelling_of}
 use Rattle.methods.specs.declared.outcome.Outcome.{Outcome}
 use Rattle.tper.specs.declared.trusted.Sent.{Sent}
@@ -80,3 +86,38 @@ pub record Handles (Met : Outcome → Type 0) (com_id : ℕ) (session : Session)
   pub rule : s.rule ≡ said.rule
   pub erases : s.erases ≡ said.erases
   pub responds : Responds com_id session (message said.reply) old new
+
+-- What was sent came to nothing, by a rule.
+pub record IsIgnored (rule : Rule) (s : Sent) (old new : Tper) : Type 0 where
+  pub unchanged : new ≡ old
+  pub denied : s.denied ≡ None
+  pub rule : s.rule ≡ Some rule
+  pub erases : s.erases ≡ no_sectors
+
+-- It ended its session, and left no response: what came of the session, and what is told of it.
+pub record BreaksOff (Met : Outcome → Type 0) (s : Sent) (old new : Tper) : Type 0 where
+  pub said : Outcome
+  pub met : Met said
+  pub waiting : new.waiting ≡ old.waiting
+  pub denied : s.denied ≡ None
+  pub rule : s.rule ≡ Some BrokenOff
+  pub erases : s.erases ≡ no_sectors
+
+-- What is sent to the session manager is discarded, or handled.
+abbrev pub Manages : ℕ → Session → List ℕ → Sent → Tper → Tper → Type 0
+Manages com_id session tokens s old new =
+    ((is_discarded old.store.config.profile (message_in tokens) ≡ true)
+    × IsIgnored Discarded s old new)
+    ⊎ ((is_discarded old.store.config.profile (message_in tokens) ≡ false)
+    × Handles (λ said. OfManager (λ f. to_manager f com_id (message_in tokens)) said old.store
+    new.store old.live new.live) com_id session s old new)
+
+-- What is sent to a live session ends it, or is handled there.
+abbrev pub Serves : ℕ → Session → SessionId → List ℕ → Sent → Tper → Tper → Type 0
+Serves com_id session id tokens s old new =
+    ((breaks_off old.store.config.profile (item_in old.store.config.profile tokens) ≡ true)
+    × BreaksOff (λ said. OfSession (λ f its. says (Ended its.sp) end_session) id said old.store
+    new.store old.live new.live) s old new)
+    ⊎ ((breaks_off old.store.config.profile (item_in old.store.config.profile tokens) ≡ false)
+    × Handles (λ said. OfSession (λ f its. in_session f its (item_in f.config.profile tokens)) id
+    said old.store new.store old.live new.live) com_id session s old new)

@@ -1,6 +1,6 @@
 //! What an item does, sent to the session manager or to a live session (TCG Core 2.01, sections 3.3.7 to 3.3.9).
 
-ghost use Rattle.std.specs.Prelude.{◌≡◌, ◌≢◌, None, Some, true, false, IfOk, OnErr, OnOk};
+ghost use Rattle.std.specs.Prelude.{◌≡◌, ◌≢◌, ◌||◌, None, Some, true, false, IfOk, OnErr, OnOk};
 ghost use Rattle.tcg_calls.specs.Asks.{uid_of as uid_in};
 ghost use Rattle.tcg_calls.specs.Carried.{is_carried};
 ghost use Rattle.tcg_calls.specs.Named.{values_of};
@@ -14,7 +14,8 @@ ghost use Rattle.audit.specs.declared.rules.rule.Rule.TheVariants.{NoItem};
 ghost use Rattle.shadow_mbr.specs.Erasure.{no_sectors};
 ghost use Rattle.sessions.specs.Live.{Live};
 ghost use Rattle.sessions.specs.Deeds.{Ended, says};
-ghost use Rattle.history.specs.Tcg.{to_manager, called_manager, item_in, ends_session, in_session, judgement_on, begins_on, ends_on};
+ghost use Rattle.history.specs.Tcg.{to_manager, called_manager, item_in, is_discarded as is_discarded_by, breaks_off as breaks_off_by, is_method_of_manager, ends_session, in_session, judgement_on, begins_on, ends_on};
+ghost use Rattle.sp_cells.specs.Names.{properties, start_session};
 ghost use Rattle.methods.specs.Calls.{outcome_of};
 ghost use Rattle.methods.specs.PlainGets.{IsPlainGet};
 ghost use Rattle.methods.specs.Said.{refusal_of};
@@ -113,6 +114,53 @@ fn call_manager(
         });
     }
     Ok(failed(alloc, Rule::NoMethod))
+}
+
+/// Whether a call is one of a method of the session manager.
+fn is_of_manager(call: &Call) -> bool
+    ensures { result ≡ (is_method_of_manager properties (uid_in call.now.object) (uid_in call.now.method)
+        || is_method_of_manager start_session (uid_in call.now.object) (uid_in call.now.method)) }
+{
+    let method = uid_of(&call.method);
+    uid_of(&call.object) == Uid::SESSION_MANAGER
+        && (method == Uid::PROPERTIES || method == Uid::START_SESSION)
+}
+
+/// Whether what is sent to the session manager is discarded there, as it calls neither of its methods.
+pub(crate) fn is_discarded(
+    alloc: Global,
+    profile: Profile,
+    tokens: &[u8],
+) -> Result<bool, AllocError>
+    ensures { IfOk result (λ b. b ≡ is_discarded_by profile (message_in tokens.now)) }
+{
+    if profile != Profile::Opal {
+        return Ok(false);
+    }
+    match read_item(alloc, tokens) {
+        Ok(Item::Call(call)) => Ok(!is_of_manager(&call)),
+        Err(TokenError::OutOfMemory) => Err(AllocError),
+        _ => Ok(true),
+    }
+}
+
+/// Whether a payload is no item, and so ends the session that it is sent to without an answer.
+pub(crate) fn breaks_off(
+    alloc: Global,
+    profile: Profile,
+    tokens: &[u8],
+) -> Result<bool, AllocError>
+    ensures { IfOk result (λ b. b ≡ breaks_off_by profile (item_in profile tokens.now)) }
+{
+    if profile != Profile::Opal || begins_with_end(tokens) {
+        return Ok(false);
+    }
+    match read_item(alloc, tokens) {
+        Ok(Item::Reply { .. }) => Ok(true),
+        Ok(_) => Ok(false),
+        Err(TokenError::OutOfMemory) => Err(AllocError),
+        Err(_) => Ok(true),
+    }
 }
 
 /// What is sent to the session manager.
@@ -247,7 +295,7 @@ fn end(store: &mut Store, session: SessionId, number: u64) -> Outcome
 
 /// The session ends, and its transaction is aborted.
 #[tactic(auto, using(crate::proofs::Configs::part_config))]
-fn end_session(store: &mut Store, sessions: &mut Sessions, session: SessionId) -> Outcome
+pub(crate) fn end_session(store: &mut Store, sessions: &mut Sessions, session: SessionId) -> Outcome
     ensures met { OfSession (λ f its. says (Ended its.sp) end_session) session result
         store.old store.new sessions.old sessions.new }
     ensures carried { is_carried (message result.reply) ≡ true }

@@ -23,16 +23,18 @@ ghost use Rattle.history.specs.KeptStore.{HasKnownRows};
 ghost use Rattle.history.specs.Opening.{Origin, origin_on};
 ghost use Rattle.history.specs.Readers.{waiting, session_on, open_on};
 ghost use Rattle.tcg_calls.specs.Carried.{is_carried};
-ghost use Rattle.tcg_tokens.specs.Message.{message};
+ghost use Rattle.tcg_tokens.specs.Message.{message, end_session};
 ghost use Rattle.tcg_tokens.specs.Reading.{reading as message_in};
 ghost use Rattle.methods.specs.Effects.{live_holder};
 ghost use Rattle.tper.specs.Items.{OfManager, OfSession};
-ghost use Rattle.tper.specs.Tper.{Keeps, IsToldOfSend, Handles, Responds, Takes, response_at};
+ghost use Rattle.tper.specs.Tper.{Keeps, IsToldOfSend, Handles, BreaksOff, Manages, Serves, Responds, Takes, response_at};
+ghost use Rattle.sessions.specs.Deeds.{Ended, says};
 
-use crate::item::{in_session, to_manager};
+use crate::item::{breaks_off, end_session, in_session, is_discarded, to_manager};
 use crate::response::{Responses, Room};
 use audit::Why;
 use audit::rules::Rule;
+use basics::Profile;
 use compacket::{ComId, Session, open};
 use device_data::has_owner;
 use methods::Outcome;
@@ -254,8 +256,36 @@ impl Tper {
         }
     }
 
+    /// The profile of the drive.
+    fn profile(&self) -> Profile
+        ensures { result ≡ self.now.store.config.profile }
+    {
+        self.store.committed().config().profile()
+    }
+
     /// What is sent to the session manager.
     fn manage(
+        &mut self,
+        com_id: ComId,
+        session: Session,
+        tokens: &[u8],
+        spare: &mut Vec<u8>,
+    ) -> Result<Sent, AllocError>
+        requires { is_session_com_id com_id ≡ true }
+        ensures handled { IfOk result
+            (λ s. Manages com_id session tokens.now s self.old self.new) }
+        ensures unchanged { IfOk result (λ s. s.changes ≡ false → self.new.store ≡ self.old.store) }
+        ensures err { OnErr result (self.new ≡ self.old) }
+        ensures config { self.new.store.config ≡ self.old.store.config }
+    {
+        if is_discarded(self.alloc, self.profile(), tokens)? {
+            return Ok(nothing(Rule::Discarded));
+        }
+        self.answer_manager(com_id, session, tokens, spare)
+    }
+
+    /// What the session manager answers.
+    fn answer_manager(
         &mut self,
         com_id: ComId,
         session: Session,
@@ -284,6 +314,46 @@ impl Tper {
 
     /// What is sent to a live session.
     fn serve(
+        &mut self,
+        com_id: ComId,
+        session: Session,
+        id: SessionId,
+        tokens: &[u8],
+        spare: &mut Vec<u8>,
+    ) -> Result<Sent, AllocError>
+        requires com_id { is_session_com_id com_id ≡ true }
+        requires lives { live_holder self.old.live id ≢ None }
+        ensures handled { IfOk result
+            (λ s. Serves com_id session id tokens.now s self.old self.new) }
+        ensures unchanged { IfOk result (λ s. s.changes ≡ false → self.new.store ≡ self.old.store) }
+        ensures err { OnErr result (self.new ≡ self.old) }
+        ensures config { self.new.store.config ≡ self.old.store.config }
+    {
+        if breaks_off(self.alloc, self.profile(), tokens)? {
+            return Ok(self.break_off(id));
+        }
+        self.answer_session(com_id, session, id, tokens, spare)
+    }
+
+    /// A session ends, and nothing is answered.
+    fn break_off(&mut self, id: SessionId) -> Sent
+        ensures ends { BreaksOff (λ said. OfSession (λ f its. says (Ended its.sp) end_session) id
+            said self.old.store self.new.store self.old.live self.new.live) result self.old
+            self.new }
+        ensures changes { result.changes ≡ true }
+        ensures config { self.new.store.config ≡ self.old.store.config }
+    {
+        end_session(&mut self.store, &mut self.sessions, id);
+        Sent {
+            denied: None,
+            rule: Some(Rule::BrokenOff),
+            erases: Erased::none(),
+            changes: true,
+        }
+    }
+
+    /// What a live session answers.
+    fn answer_session(
         &mut self,
         com_id: ComId,
         session: Session,

@@ -55,6 +55,10 @@ pub enum Rule {
     WrongValue,
     /// The cells of a Set are refused for this fault.
     NotSet(SetError),
+    /// What is no item ended the session that it was sent to (Opal SSC 2.01, section 3.3.4.1.3).
+    BrokenOff,
+    /// What was sent to the session manager calls neither of its methods, and was discarded (the same section).
+    Discarded,
     /// The row behind which a Next should go on is none of its table (Core 2.01, section 5.3.3.8).
     NoSuchRow,
     /// The access list has no line for the object and the method that a GetACL names (Core 2.01, section 5.3.3.13).

@@ -64,6 +64,8 @@ pub fn rule_words(rule: Rule) -> &'static [u8]
         Rule::WrongValue =>
             b"a value that its column does not take, or bytes behind the table's end",
         Rule::NotSet(fault) => of_fault(fault),
+        Rule::BrokenOff => b"the payload is no item: it ended the session",
+        Rule::Discarded => b"no call of Properties or StartSession: it was discarded",
         Rule::NoSuchRow => b"the table has no such row",
         Rule::NoAccessLine => b"the access list has no line for that object and that method",
         Rule::InTransaction => b"the session has a transaction open",
