@@ -3,14 +3,13 @@
 ghost use Rattle.std.specs.Prelude.{◌≡◌, ◌+◌, ◌++◌, ◌==◌, if◌then◌else◌};
 ghost use Rattle.std.specs.List.{flat_map};
 ghost use Rattle.basics.specs.declared.profile.Profile.{Profile};
-ghost use Rattle.sp_tables.specs.Factory.{in_field, admin_authorities, label_authorities, locking_authorities, locking_pins};
+ghost use Rattle.sp_tables.specs.Factory.{in_field, in_opal, admin_authorities, label_authorities, opal_authorities, locking_authorities, locking_pins};
 ghost use Rattle.sp_tables.specs.Entries.{entry_items, authority_items, pin_items};
 
 use crate::sp_rows::adding::{push_group, push_member};
-use crate::sp_rows::entries::{Adds, Entry, Numbered, push_family};
+use crate::sp_rows::entries::{Adds, Drives, Entry, Numbered, push_family};
 use crate::sp_rows::new_rows::{member, pin, range, range_key};
 use crate::sp_rows::{AuthorityRow, CPinRow, LockingRow, RangeKeyRow, Run};
-use basics::Profile;
 use sp_cells::limits::NEW_TRY_LIMIT;
 use sp_cells::names::tables;
 use sp_cells::{ADMINS, USERS, Uid};
@@ -183,9 +182,9 @@ impl Numbered<RangeKeyRow> for RangeKeys {
 }
 
 /// The authorities of the Admin SP.
-static ADMIN_AUTHORITIES: [Entry<Authorities>; 3] = [
+static ADMIN_AUTHORITIES: [Entry<Authorities>; 6] = [
     Entry {
-        profile: None,
+        drives: Drives::All,
         rows: Authorities::Group(Group {
             object: Uid::ANYBODY,
             name: "Anybody",
@@ -193,7 +192,7 @@ static ADMIN_AUTHORITIES: [Entry<Authorities>; 3] = [
         }),
     },
     Entry {
-        profile: None,
+        drives: Drives::All,
         rows: Authorities::Member(Member {
             object: Uid::SID,
             name: "SID",
@@ -201,27 +200,15 @@ static ADMIN_AUTHORITIES: [Entry<Authorities>; 3] = [
         }),
     },
     Entry {
-        profile: Some(Profile::Field),
+        drives: Drives::Field,
         rows: Authorities::Member(Member {
             object: Uid::PSID,
             name: "PSID",
             credential: Uid::C_PIN_PSID,
         }),
     },
-];
-
-/// The authorities of the Locking SP.
-static LOCKING_AUTHORITIES: [Entry<Authorities>; 5] = [
     Entry {
-        profile: None,
-        rows: Authorities::Group(Group {
-            object: Uid::ANYBODY,
-            name: "Anybody",
-            is_class: 0,
-        }),
-    },
-    Entry {
-        profile: None,
+        drives: Drives::Opal,
         rows: Authorities::Group(Group {
             object: Uid::ADMINS,
             name: "Admins",
@@ -229,7 +216,45 @@ static LOCKING_AUTHORITIES: [Entry<Authorities>; 5] = [
         }),
     },
     Entry {
-        profile: None,
+        drives: Drives::Opal,
+        rows: Authorities::Group(Group {
+            object: Uid::MAKERS,
+            name: "Makers",
+            is_class: 1,
+        }),
+    },
+    Entry {
+        drives: Drives::Opal,
+        rows: Authorities::Each(AuthorityFamily {
+            number: 0x200,
+            name: "Admin",
+            class: Uid::ADMINS,
+            first_enabled: 0,
+            count: 1,
+        }),
+    },
+];
+
+/// The authorities of the Locking SP.
+static LOCKING_AUTHORITIES: [Entry<Authorities>; 5] = [
+    Entry {
+        drives: Drives::All,
+        rows: Authorities::Group(Group {
+            object: Uid::ANYBODY,
+            name: "Anybody",
+            is_class: 0,
+        }),
+    },
+    Entry {
+        drives: Drives::All,
+        rows: Authorities::Group(Group {
+            object: Uid::ADMINS,
+            name: "Admins",
+            is_class: 1,
+        }),
+    },
+    Entry {
+        drives: Drives::All,
         rows: Authorities::Each(AuthorityFamily {
             number: 0x1_0000,
             name: "Admin",
@@ -239,7 +264,7 @@ static LOCKING_AUTHORITIES: [Entry<Authorities>; 5] = [
         }),
     },
     Entry {
-        profile: None,
+        drives: Drives::All,
         rows: Authorities::Group(Group {
             object: Uid::USERS,
             name: "Users",
@@ -247,7 +272,7 @@ static LOCKING_AUTHORITIES: [Entry<Authorities>; 5] = [
         }),
     },
     Entry {
-        profile: None,
+        drives: Drives::All,
         rows: Authorities::Each(AuthorityFamily {
             number: 0x3_0000,
             name: "User",
@@ -261,7 +286,7 @@ static LOCKING_AUTHORITIES: [Entry<Authorities>; 5] = [
 /// The PINs of the Locking SP.
 static LOCKING_PINS: [Entry<PinFamily>; 2] = [
     Entry {
-        profile: None,
+        drives: Drives::All,
         rows: PinFamily {
             number: 0x1_0000,
             name: "C_PIN_Admin",
@@ -269,7 +294,7 @@ static LOCKING_PINS: [Entry<PinFamily>; 2] = [
         },
     },
     Entry {
-        profile: None,
+        drives: Drives::All,
         rows: PinFamily {
             number: 0x3_0000,
             name: "C_PIN_User",
@@ -281,7 +306,7 @@ static LOCKING_PINS: [Entry<PinFamily>; 2] = [
 /// The authorities of the Admin SP.
 pub(crate) fn admin_authority_entries() -> &'static [Entry<Authorities>]
     ensures { (p : Profile) → flat_map (entry_items authority_items p) result.now
-        ≡ admin_authorities ++ in_field p label_authorities }
+        ≡ admin_authorities ++ in_field p label_authorities ++ in_opal p opal_authorities }
 {
     &ADMIN_AUTHORITIES
 }
