@@ -50,10 +50,10 @@ reverters Field = ace_sp_sid ∷ ace_sp_psid ∷ []
 reverters Opal = ace_sp_sid ∷ ace_admins ∷ ace_sp_psid ∷ []
 
 -- who may revert the Locking SP from the Admin SP
-abbrev pub locking_reverters : Profile → List Uid
-locking_reverters Base = ace_sp_sid ∷ []
-locking_reverters Field = ace_sp_sid ∷ []
-locking_reverters Opal = ace_sp_sid ∷ ace_admins ∷ []
+abbrev pub reverters_of_locking : Profile → List Uid
+reverters_of_locking Base = ace_sp_sid ∷ []
+reverters_of_locking Field = ace_sp_sid ∷ []
+reverters_of_locking Opal = ace_sp_sid ∷ ace_admins ∷ []
 
 -- who may read an ACE of the Locking SP: under Opal the Admins alone
 abbrev pub ace_getters : Profile → List Uid
@@ -83,7 +83,7 @@ owner_grants profile =
     ∷ grant Admin c_pin_sid set (ace_c_pin_sid_set_pin ∷ [])
     ∷ grant Admin c_pin_msid get (ace_c_pin_msid_get_pin ∷ [])
     ∷ grant Admin locking_sp activate (ace_sp_sid ∷ [])
-    ∷ grant Admin locking_sp revert (locking_reverters profile)
+    ∷ grant Admin locking_sp revert (reverters_of_locking profile)
     ∷ grant Admin admin_sp revert (reverters profile)
     ∷ grant Admin tper_info set (ace_tper_info_set_programmatic_reset_enable ∷ [])
     ∷ []
@@ -304,9 +304,9 @@ line_count sp [] = 0
 line_count sp (g ∷ gs) = if sp_eq g.sp sp then 1 + line_count sp gs else line_count sp gs
 
 -- no two are for one method of one object of one SP
-abbrev pub are_distinct : List Grant → Bool
-are_distinct [] = true
-are_distinct (g ∷ gs) = is_none (acl_in gs g.sp g.object g.method) && are_distinct gs
+abbrev pub lines_differ : List Grant → Bool
+lines_differ [] = true
+lines_differ (g ∷ gs) = is_none (acl_in gs g.sp g.object g.method) && lines_differ gs
 
 -- each has from one to four ACEs
 abbrev pub have_room : List Grant → Bool
