@@ -258,8 +258,7 @@ key_grants =
     map (λ n. grant Locking (key_uid n) gen_key (ace_key_gen_key n ∷ [])) all_ranges
     ++ grant Locking this_sp revert_sp (ace_admins ∷ []) ∷ []
 
--- who may name its authorities and ranges and read the mode of its keys, with the ACEs on these and on reading, and how it
--- protects its keys (Opal SSC 2.01, sections 4.3.1.5, 4.3.1.6, 4.3.1.9 and 4.3.5.5)
+-- the first Admin's name, and the ACEs on names and on reading (Opal SSC 2.01, sections 4.3.1.5 and 4.3.1.6)
 unfoldable pub name_grants : List Grant
 name_grants =
     grants Locking (ace_admins_set_common_name ∷ ace_ace_get_all ∷ ace_authority_get_all
@@ -267,6 +266,7 @@ name_grants =
     ++ settable Opal (map ace_user_set_common_name users)
     ++ grant Locking (admin_uid 1) set (namers Opal ace_admins_set_common_name) ∷ []
 
+-- the mode of its keys, and how they are protected (Opal SSC 2.01, sections 4.3.1.9 and 4.3.5.5)
 unfoldable pub mode_grants : List Grant
 mode_grants =
     grants Locking (map key_uid all_ranges) get (ace_key_mode ∷ [])

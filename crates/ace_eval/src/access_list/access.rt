@@ -313,9 +313,9 @@ fn authority_row(profile: Profile, object: Uid, method: Uid) -> Option<ArrayVec<
     let admin = object.admin_number();
     let user = object.user_number();
     match method {
-        Uid::GET if is_class || admin.is_some() || user.is_some() => Some(authority_getters(
-            profile,
-        )),
+        Uid::GET if is_class || admin.is_some() || user.is_some() => {
+            Some(authority_getters(profile))
+        }
         Uid::SET => {
             let namer = match (admin, user) {
                 (Some(2..), _) => Uid::ACE_ADMINS_SET_COMMON_NAME,
