@@ -50,10 +50,10 @@ reverters Field = ace_sp_sid ∷ ace_sp_psid ∷ []
 reverters Opal = ace_sp_sid ∷ ace_admins ∷ ace_sp_psid ∷ []
 
 -- who may revert the Locking SP from the Admin SP
-abbrev pub locking_reverters : Profile → List Uid
-locking_reverters Base = ace_sp_sid ∷ []
-locking_reverters Field = ace_sp_sid ∷ []
-locking_reverters Opal = ace_sp_sid ∷ ace_admins ∷ []
+abbrev pub reverters_of_locking : Profile → List Uid
+reverters_of_locking Base = ace_sp_sid ∷ []
+reverters_of_locking Field = ace_sp_sid ∷ []
+reverters_of_locking Opal = ace_sp_sid ∷ ace_admins ∷ []
 
 -- who may read an ACE of the Locking SP: under Opal the Admins alone
 abbrev pub ace_getters : Profile → List Uid
@@ -83,7 +83,7 @@ owner_grants profile =
     ∷ grant Admin c_pin_sid set (ace_c_pin_sid_set_pin ∷ [])
     ∷ grant Admin c_pin_msid get (ace_c_pin_msid_get_pin ∷ [])
     ∷ grant Admin locking_sp activate (ace_sp_sid ∷ [])
-    ∷ grant Admin locking_sp revert (locking_reverters profile)
+    ∷ grant Admin locking_sp revert (reverters_of_locking profile)
     ∷ grant Admin admin_sp revert (reverters profile)
     ∷ grant Admin tper_info set (ace_tper_info_set_programmatic_reset_enable ∷ [])
     ∷ []
@@ -258,8 +258,7 @@ key_grants =
     map (λ n. grant Locking (key_uid n) gen_key (ace_key_gen_key n ∷ [])) all_ranges
     ++ grant Locking this_sp revert_sp (ace_admins ∷ []) ∷ []
 
--- who may name its authorities and ranges and read the mode of its keys, with the ACEs on these and on reading, and how it
--- protects its keys (Opal SSC 2.01, sections 4.3.1.5, 4.3.1.6, 4.3.1.9 and 4.3.5.5)
+-- the first Admin's name, and the ACEs on names and on reading (Opal SSC 2.01, sections 4.3.1.5 and 4.3.1.6)
 unfoldable pub name_grants : List Grant
 name_grants =
     grants Locking (ace_admins_set_common_name ∷ ace_ace_get_all ∷ ace_authority_get_all
@@ -267,6 +266,7 @@ name_grants =
     ++ settable Opal (map ace_user_set_common_name users)
     ++ grant Locking (admin_uid 1) set (namers Opal ace_admins_set_common_name) ∷ []
 
+-- the mode of its keys, and how they are protected (Opal SSC 2.01, sections 4.3.1.9 and 4.3.5.5)
 unfoldable pub mode_grants : List Grant
 mode_grants =
     grants Locking (map key_uid all_ranges) get (ace_key_mode ∷ [])
@@ -304,9 +304,9 @@ line_count sp [] = 0
 line_count sp (g ∷ gs) = if sp_eq g.sp sp then 1 + line_count sp gs else line_count sp gs
 
 -- no two are for one method of one object of one SP
-abbrev pub are_distinct : List Grant → Bool
-are_distinct [] = true
-are_distinct (g ∷ gs) = is_none (acl_in gs g.sp g.object g.method) && are_distinct gs
+abbrev pub lines_differ : List Grant → Bool
+lines_differ [] = true
+lines_differ (g ∷ gs) = is_none (acl_in gs g.sp g.object g.method) && lines_differ gs
 
 -- each has from one to four ACEs
 abbrev pub have_room : List Grant → Bool

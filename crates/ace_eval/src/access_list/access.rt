@@ -3,7 +3,7 @@
 ghost use Rattle.std.specs.Prelude.{◌≡◌, ◌<◌, ◌≤◌, ◌==◌, [], ◌∷◌, ◌++◌, length, map, option_map, Some, None, if◌then◌else◌};
 ghost use Rattle.sp_cells.specs.Names.{get, set, ace_ace_set_boolean_expression, ace_admins_set_common_name};
 ghost use Rattle.sp_cells.specs.Authorities.{authorities_of_locking};
-ghost use Rattle.ace_eval.specs.Access.{IsAnsweredByGrants, of_field, of_opal, reverters as reverters_of, locking_reverters as locking_reverters_of, ace_getters as ace_getters_of, authority_getters as authority_getters_of, namers as namers_of, sp_grants, maker_grants, name_grants, mode_grants, owner_grants, label_grants, removal_grants, admin_grants, authority_grants, fixed_ace_gets, user_ace_grants, range_get_ace_grants, gen_key_ace_grants, read_locked_ace_grants, write_locked_ace_grants, done_ace_grants, pin_grants, range_get_grants, range_set_grants, mbr_grants, info_grants, datastore_grants, key_grants, locking_grants, access_list};
+ghost use Rattle.ace_eval.specs.Access.{IsAnsweredByGrants, of_field, of_opal, reverters as reverters_of, reverters_of_locking as reverters_of_locking_sp, ace_getters as ace_getters_of, authority_getters as authority_getters_of, namers as namers_of, sp_grants, maker_grants, name_grants, mode_grants, owner_grants, label_grants, removal_grants, admin_grants, authority_grants, fixed_ace_gets, user_ace_grants, range_get_ace_grants, gen_key_ace_grants, read_locked_ace_grants, write_locked_ace_grants, done_ace_grants, pin_grants, range_get_grants, range_set_grants, mbr_grants, info_grants, datastore_grants, key_grants, locking_grants, access_list};
 ghost use Rattle.sp_cells.specs.declared.names.Sp.TheVariants.{Admin, Locking};
 
 use crate::access_list::opal::{maker_row, mode_row, name_row, sp_row};
@@ -93,8 +93,8 @@ fn reverters(profile: Profile) -> ArrayVec<Uid, 4>
 }
 
 /// The ACEs that may revert the Locking SP from the Admin SP.
-fn locking_reverters(profile: Profile) -> ArrayVec<Uid, 4>
-    ensures { result.items ≡ locking_reverters_of profile }
+fn reverters_of_locking(profile: Profile) -> ArrayVec<Uid, 4>
+    ensures { result.items ≡ reverters_of_locking_sp profile }
 {
     match profile {
         Profile::Base | Profile::Field => one(Uid::ACE_SP_SID),
@@ -157,7 +157,7 @@ fn owner_row(profile: Profile, object: Uid, method: Uid) -> Option<ArrayVec<Uid,
         (Uid::C_PIN_SID, Uid::SET) => Some(one(Uid::ACE_C_PIN_SID_SET_PIN)),
         (Uid::C_PIN_MSID, Uid::GET) => Some(one(Uid::ACE_C_PIN_MSID_GET_PIN)),
         (Uid::LOCKING_SP, Uid::ACTIVATE) => Some(one(Uid::ACE_SP_SID)),
-        (Uid::LOCKING_SP, Uid::REVERT) => Some(locking_reverters(profile)),
+        (Uid::LOCKING_SP, Uid::REVERT) => Some(reverters_of_locking(profile)),
         (Uid::ADMIN_SP, Uid::REVERT) => Some(reverters(profile)),
         (Uid::TPER_INFO, Uid::SET) => Some(one(Uid::ACE_TPER_INFO_SET_PROGRAMMATIC_RESET_ENABLE)),
         (
@@ -225,7 +225,8 @@ fn locking_row(profile: Profile, object: Uid, method: Uid) -> Option<ArrayVec<Ui
 #[tactic(auto, using(crate::proofs::access_list::Joins::joins))]
 fn field_row(profile: Profile, object: Uid, method: Uid) -> Option<ArrayVec<Uid, 4>>
     ensures { IsAnsweredByGrants
-        (of_field profile (gen_key_ace_grants profile ++ info_grants ++ datastore_grants profile ++ key_grants))
+        (of_field profile (gen_key_ace_grants profile ++ info_grants ++ datastore_grants profile
+        ++ key_grants))
         Locking object method result }
 {
     if !profile.has_field() {
@@ -312,9 +313,9 @@ fn authority_row(profile: Profile, object: Uid, method: Uid) -> Option<ArrayVec<
     let admin = object.admin_number();
     let user = object.user_number();
     match method {
-        Uid::GET if is_class || admin.is_some() || user.is_some() => Some(authority_getters(
-            profile,
-        )),
+        Uid::GET if is_class || admin.is_some() || user.is_some() => {
+            Some(authority_getters(profile))
+        }
         Uid::SET => {
             let namer = match (admin, user) {
                 (Some(2..), _) => Uid::ACE_ADMINS_SET_COMMON_NAME,

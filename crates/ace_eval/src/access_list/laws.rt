@@ -1,7 +1,7 @@
 //! How many lines the access list has.
 
 ghost use Rattle.std.specs.Prelude.{◌≡◌, IsTrue};
-ghost use Rattle.ace_eval.specs.Access.{access_list, line_count, are_distinct, have_room};
+ghost use Rattle.ace_eval.specs.Access.{access_list, line_count, lines_differ, have_room};
 ghost use Rattle.basics.specs.declared.profile.Profile.TheVariants.{Base, Field, Opal};
 ghost use Rattle.sp_cells.specs.declared.names.Sp.TheVariants.{Admin, Locking};
 
@@ -18,7 +18,7 @@ pub fn laws_of_access_list()
     ensures room_base { IsTrue (have_room (access_list Base)) }
     ensures room_field { IsTrue (have_room (access_list Field)) }
     ensures room_opal { IsTrue (have_room (access_list Opal)) }
-    ensures distinct_base { IsTrue (are_distinct (access_list Base)) }
-    ensures distinct_field { IsTrue (are_distinct (access_list Field)) }
-    ensures distinct_opal { IsTrue (are_distinct (access_list Opal)) }
+    ensures distinct_base { IsTrue (lines_differ (access_list Base)) }
+    ensures distinct_field { IsTrue (lines_differ (access_list Field)) }
+    ensures distinct_opal { IsTrue (lines_differ (access_list Opal)) }
 {}

@@ -43,7 +43,7 @@ fn own_row(sp: Sp, object: Uid, method: Uid) -> Option<ArrayVec<Uid, 4>>
     }
 }
 
-/// The table that is this object.
+/// The table that this object is.
 fn table_at(object: Uid) -> Option<u64>
     ensures { result ≡ (if object.0 % 0x100000000 == 0 then Some (table_of object) else None) }
 {
@@ -78,7 +78,7 @@ fn listed_row(sp: Sp, object: Uid, method: Uid) -> Option<ArrayVec<Uid, 4>>
     }
 }
 
-/// The table of which this object tells.
+/// The table of which this row of the Table table tells.
 fn table_told(object: Uid) -> Option<u64>
     ensures { result ≡ (if nat_lt object.0 (table_row 0).0 then None else
         Some (object.0 - (table_row 0).0)) }
