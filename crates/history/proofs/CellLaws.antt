@@ -20,7 +20,7 @@ use Rattle.sp_cells.specs.Names.{locking_sp, range_uid, admin_pin_uid, mbr_contr
 use Rattle.sp_cells.specs.ColumnNames.{credential_column, lock_on_reset_column, mbr_done_column, mbr_done_on_reset_column}
 use Rattle.sp_cells.specs.Flat.{PlacedCell, sp_eq, cell_at}
 use Rattle.sp_tables.specs.Items.{Item, on, with_item, with_items}
-use Rattle.sp_tables.specs.Factory.{admin_factory, locking_factory, admin_sps, admin_authorities, label_authorities, admin_pins, label_pins, admin_aces, label_aces, removal_aces, data_removals, locking_authorities, locking_pins, locking_ranges, locking_mbr_controls, authority_aces, pin_aces, range_get_aces, range_aces, mbr_aces, gen_key_aces, range_keys, locking_infos, byte_tables, datastore_aces}
+use Rattle.sp_tables.specs.Factory.{admin_factory, locking_factory, admin_sps, admin_authorities, label_authorities, admin_pins, label_pins, admin_aces, label_aces, removal_aces, data_removals, locking_authorities, locking_pins, locking_ranges, locking_mbr_controls, authority_aces, pin_aces, range_get_aces, range_aces, mbr_aces, gen_key_aces, range_keys, locking_infos, byte_tables, datastore_aces, opal_authorities, opal_pins, opal_admin_aces, opal_locking_aces, admin_constants, locking_constants}
 use Rattle.sp_tables.specs.AtReset.{has_kind}
 use Rattle.sp_tables.specs.Contents.{new_admin, new_locking, Contents, factory_contents, cells_look_up, flat}
 use Rattle.sp_tables.specs.Looks.{RowLook, put_in, puts_in}
@@ -144,7 +144,7 @@ admin-few Field msid psid = refl
 admin-few Opal msid psid = refl
 
 locking-few : (p : Profile) (sizes : TableSizes) → are_few (last_column p).0 (locking_factory p sizes) ≡ true
-unfolding locking_authorities locking_pins locking_ranges locking_mbr_controls authority_aces pin_aces range_get_aces range_aces mbr_aces gen_key_aces range_keys locking_infos byte_tables datastore_aces
+unfolding locking_authorities locking_pins locking_ranges locking_mbr_controls authority_aces pin_aces range_get_aces range_aces mbr_aces gen_key_aces range_keys locking_infos byte_tables datastore_aces opal_authorities opal_pins opal_admin_aces opal_locking_aces admin_constants locking_constants
 locking-few Base sizes = refl
 locking-few Field sizes = refl
 locking-few Opal sizes = refl
