@@ -11,7 +11,7 @@ use Rattle.sp_cells.specs.declared.cells.Cell.TheVariants.{Number, Bytes, Uid as
 use Rattle.sp_cells.specs.declared.cells.Element.{Element}
 use Rattle.sp_cells.specs.declared.cells.Element.TheVariants.{Authority, Or}
 use Rattle.sp_cells.specs.Limits.{new_try_limit}
-use Rattle.sp_cells.specs.Names.{uid, none, admins_class, user_uid, key_base, ace_base, authority_table, c_pin_table}
+use Rattle.sp_cells.specs.Names.{uid, admins_class, user_uid, key_base, ace_base, authority_table, c_pin_table}
 use Rattle.sp_tables.specs.declared.sp_rows.entries.Entry.{Entry}
 use Rattle.sp_tables.specs.declared.sp_rows.entries.Drives.{Drives}
 use Rattle.sp_tables.specs.declared.sp_rows.entries.Drives.TheVariants.{All, Base as OfBase, Field as OfField, Opal as OfOpal, ButOpal}
@@ -30,13 +30,7 @@ use Rattle.sp_tables.specs.declared.sp_rows.constants.Constants.{Constants}
 use Rattle.sp_tables.specs.declared.sp_rows.constants.Constants.TheVariants.{One as OneRow, OfAuthorities, OfKeys}
 use Rattle.basics.specs.Profiles.{has_field}
 use Rattle.sp_tables.specs.Items.{Item, row_items}
-use Rattle.sp_tables.specs.Factory.{new_group, new_member, new_pin, new_ace, ace_row, admins_or_row, numbered_key, family}
-
--- the profile is Opal
-abbrev pub is_opal : Profile → Bool
-is_opal Base = false
-is_opal Field = false
-is_opal Opal = true
+use Rattle.sp_tables.specs.Factory.{is_opal, new_group, new_member, new_pin, new_ace, ace_row, admins_or_row, numbered_key, family}
 
 -- the drives that have what stands in an entry: all, those of one profile with those that have all of it, or all but Opal's
 abbrev pub is_in : Drives → Profile → Bool
@@ -79,7 +73,7 @@ member_authority f n = new_member (uid (row_base authority_table + f.number + n)
 
 abbrev pub authority_items : Authorities → List Item
 authority_items (Group g) = row_items g.object (new_group g.object g.name.now g.is_class)
-authority_items (Member m) = row_items m.object (new_member m.object m.name.now none 1 m.credential)
+authority_items (Member m) = row_items m.object (new_member m.object m.name.now m.class m.enabled m.credential)
 authority_items (Each f) = family (row_base authority_table + f.number) (member_authority f) f.count
 
 abbrev pub member_pin : PinFamily → ℕ → List (Column × Cell)

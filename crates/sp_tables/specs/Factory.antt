@@ -1,5 +1,5 @@
 -- The cells of a new drive (Opal SSC 2.01, sections 4.2 and 4.3).
-use Rattle.std.specs.Prelude.{◌≡◌, ◌+◌, ◌==◌, ℕ, true, false, List, [], ◌∷◌, ◌++◌, replicate, zero, suc, codes, if◌then◌else◌}
+use Rattle.std.specs.Prelude.{◌≡◌, ◌+◌, ◌==◌, ℕ, Bool, true, false, List, [], ◌∷◌, ◌++◌, replicate, zero, suc, codes, if◌then◌else◌}
 use Rattle.std.specs.Fmt.{decimal}
 use Rattle.std.specs.List.{flat_map}
 use Rattle.basics.specs.declared.profile.Profile.{Profile}
@@ -284,11 +284,14 @@ locks = read_lock_enabled_column ∷ write_lock_enabled_column ∷ read_locked_c
 abbrev pub in_field : Profile → List Item → List Item
 in_field profile items = if has_field profile then items else []
 
--- rows that a drive of the profile `Opal` alone has
+-- rows that a drive has under the profile `Opal` alone
+abbrev pub is_opal : Profile → Bool
+is_opal Base = false
+is_opal Field = false
+is_opal Opal = true
+
 abbrev pub in_opal : Profile → List Item → List Item
-in_opal Base items = []
-in_opal Field items = []
-in_opal Opal items = items
+in_opal profile items = if is_opal profile then items else []
 
 -- these runs of rows have these cells
 abbrev pub HasRows : {R : Type 0} → (R → List (Column × Cell)) → List (Run R) → List Item → Type 0

@@ -23,7 +23,6 @@ pub struct ConstantRow {
 }
 
 /// The cell of a column, where it is among these.
-#[tactic(auto, using(crate::proofs::sp_rows::ColumnLemmas::searching))]
 fn cell_among(cells: &[(Column, Cell)], column: Column) -> Option<&Cell>
     ensures { option_copied result ≡ column_at cells.now column }
 {
@@ -36,7 +35,6 @@ fn cell_among(cells: &[(Column, Cell)], column: Column) -> Option<&Cell>
 }
 
 /// Exchanges the cell of a column, where it is among these.
-#[tactic(auto, using(crate::proofs::sp_rows::ColumnLemmas::searching))]
 fn swap_among(cells: &mut Vec<(Column, Cell)>, column: Column, cell: &mut Cell) -> bool
     ensures found { result ≡ is_some (column_at cells.old.items column) }
     ensures old { OnTrue result (column_at cells.old.items column ≡ Some cell.new) }

@@ -29,7 +29,7 @@ pub(crate) enum Drives {
 
 impl Drives {
     /// A drive of this profile is one of them.
-    fn has(&self, profile: Profile) -> bool
+    pub(crate) fn has(&self, profile: Profile) -> bool
         ensures { result ≡ is_in self.now profile }
     {
         match self {

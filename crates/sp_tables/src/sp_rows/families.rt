@@ -1,12 +1,14 @@
 //! The authorities of a new drive with their PINs, and its ranges with their keys: those that have a number.
 
-ghost use Rattle.std.specs.Prelude.{◌≡◌, ◌+◌, ◌++◌, ◌==◌, if◌then◌else◌};
+ghost use Rattle.std.specs.Prelude.{◌≡◌, ◌+◌, ◌++◌, ◌==◌, OnOk, if◌then◌else◌};
+ghost use Rattle.sp_tables.specs.Items.{row_items};
+ghost use Rattle.sp_tables.specs.Columns.{authority_columns};
 ghost use Rattle.std.specs.List.{flat_map};
 ghost use Rattle.basics.specs.declared.profile.Profile.{Profile};
-ghost use Rattle.sp_tables.specs.Factory.{in_field, in_opal, admin_authorities, label_authorities, opal_authorities, locking_authorities, locking_pins};
+ghost use Rattle.sp_tables.specs.Factory.{AddsRows, new_member, in_field, in_opal, admin_authorities, label_authorities, opal_authorities, locking_authorities, locking_pins};
 ghost use Rattle.sp_tables.specs.Entries.{entry_items, authority_items, pin_items};
 
-use crate::sp_rows::adding::{push_group, push_member};
+use crate::sp_rows::adding::{push_group, push_one};
 use crate::sp_rows::entries::{Adds, Drives, Entry, Numbered, push_family};
 use crate::sp_rows::new_rows::{member, pin, range, range_key};
 use crate::sp_rows::{AuthorityRow, CPinRow, LockingRow, RangeKeyRow, Run};
@@ -28,10 +30,12 @@ pub(crate) struct Group {
     pub(crate) is_class: u64,
 }
 
-/// An authority that is of no class, enabled, and signs in with a PIN.
+/// An authority that signs in with a PIN.
 pub(crate) struct Member {
     pub(crate) object: Uid,
     pub(crate) name: &'static str,
+    pub(crate) class: Uid,
+    pub(crate) enabled: u64,
     pub(crate) credential: Uid,
 }
 
@@ -87,6 +91,22 @@ impl Numbered<AuthorityRow> for AuthorityFamily {
     }
 }
 
+/// Adds an authority that signs in with a PIN.
+fn push_member(
+    alloc: Global,
+    runs: &mut Vec<Run<AuthorityRow>>,
+    it: &Member,
+) -> Result<(), AllocError>
+    ensures { OnOk result (AddsRows authority_columns runs.old.items runs.new.items
+        (row_items it.now.object (new_member
+        it.now.object it.now.name.now it.now.class it.now.enabled it.now.credential))) }
+{
+    let name = String::from_str(alloc, it.name)?;
+    let row = member(alloc, it.object, name, it.class, it.enabled, it.credential);
+    push_one(alloc, runs, it.object, row)?;
+    Ok(())
+}
+
 impl Adds<AuthorityRow> for Authorities {
     ghost use Rattle.sp_tables.specs.Entries.{authority_items};
 
@@ -95,7 +115,7 @@ impl Adds<AuthorityRow> for Authorities {
     fn add(&self, alloc: Global, runs: &mut Vec<Run<AuthorityRow>>) -> Result<(), AllocError> {
         match self {
             Authorities::Group(it) => push_group(alloc, runs, it.object, it.name, it.is_class)?,
-            Authorities::Member(it) => push_member(alloc, runs, it.object, it.name, it.credential)?,
+            Authorities::Member(it) => push_member(alloc, runs, it)?,
             Authorities::Each(members) => push_family(alloc, runs, members, members.count)?,
         }
         Ok(())
@@ -196,6 +216,8 @@ static ADMIN_AUTHORITIES: [Entry<Authorities>; 6] = [
         rows: Authorities::Member(Member {
             object: Uid::SID,
             name: "SID",
+            class: Uid::NONE,
+            enabled: 1,
             credential: Uid::C_PIN_SID,
         }),
     },
@@ -204,6 +226,8 @@ static ADMIN_AUTHORITIES: [Entry<Authorities>; 6] = [
         rows: Authorities::Member(Member {
             object: Uid::PSID,
             name: "PSID",
+            class: Uid::NONE,
+            enabled: 1,
             credential: Uid::C_PIN_PSID,
         }),
     },
@@ -225,12 +249,12 @@ static ADMIN_AUTHORITIES: [Entry<Authorities>; 6] = [
     },
     Entry {
         drives: Drives::Opal,
-        rows: Authorities::Each(AuthorityFamily {
-            number: 0x200,
-            name: "Admin",
+        rows: Authorities::Member(Member {
+            object: Uid::ADMIN_SP_ADMIN,
+            name: "Admin1",
             class: Uid::ADMINS,
-            first_enabled: 0,
-            count: 1,
+            enabled: 0,
+            credential: Uid::C_PIN_ADMIN_SP_ADMIN,
         }),
     },
 ];

@@ -9,7 +9,7 @@ ghost use Rattle.sp_tables.specs.Columns.{c_pin_columns, range_key_columns, lock
 ghost use Rattle.sp_tables.specs.Factory.{HasRows, AddsRows, in_field, in_opal, label_pins, opal_pins, new_byte_table, range_keys, locking_infos, byte_tables, data_removals};
 
 use crate::sp_rows::adding::{push_one, push_pin};
-use crate::sp_rows::entries::push_family;
+use crate::sp_rows::entries::{Drives, push_family};
 use crate::sp_rows::families::RangeKeys;
 use crate::sp_rows::new_rows::{byte_table, data_removal, locking_info, range_key};
 use crate::sp_rows::{CPinRow, DataRemovalRow, LockingInfoRow, RangeKeyRow, Run, TableRow};
@@ -53,7 +53,7 @@ pub(crate) fn push_opal_pin(
     ensures { OnOk result (AddsRows c_pin_columns runs.old.items runs.new.items
         (in_opal profile opal_pins)) }
 {
-    if profile != Profile::Opal {
+    if !Drives::Opal.has(profile) {
         return Ok(());
     }
     push_pin(
