@@ -52,19 +52,31 @@ impl<'a> Octets<'a> {
 #[derive(Drop)]
 pub enum Ask<'a> {
     /// Get: the columns from the first to the last.
-    GetCells { first: u64, last: u64 },
+    GetCells {
+        first: u64,
+        last: u64,
+    },
 
     /// Get of a byte table: the rows from the first to the last, or to the end of the table.
-    GetBytes { first: u64, last: Option<u64> },
+    GetBytes {
+        first: u64,
+        last: Option<u64>,
+    },
 
     /// Set: values for columns.
     SetCells(Assignments<'a>),
 
     /// Set of a byte table: bytes from a row on.
-    SetBytes { at: u64, bytes: Octets<'a> },
+    SetBytes {
+        at: u64,
+        bytes: Octets<'a>,
+    },
 
     /// Authenticate: an authority, and what proves it.
-    Authenticate { authority: Uid, proof: Octets<'a> },
+    Authenticate {
+        authority: Uid,
+        proof: Octets<'a>,
+    },
 
     Activate,
 
@@ -74,13 +86,21 @@ pub enum Ask<'a> {
     GenKey,
 
     /// RevertSP: whether the data of the global range are kept.
-    RevertSp { keep: bool },
+    RevertSp {
+        keep: bool,
+    },
 
     /// Next: the row behind which it goes on, where one is named, and how many rows it gives at most.
-    Next { after: Option<Uid>, count: Option<u64> },
+    Next {
+        after: Option<Uid>,
+        count: Option<u64>,
+    },
 
     /// GetACL: the object and the method whose line of the access list is asked for.
-    GetAcl { object: Uid, method: Uid },
+    GetAcl {
+        object: Uid,
+        method: Uid,
+    },
 
     /// A method that the profile does not know.
     Other,

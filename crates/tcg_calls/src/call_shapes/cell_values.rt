@@ -12,8 +12,7 @@ use crate::call_shapes::ask::uid_in;
 use crate::call_shapes::named::list_in;
 use arrayvec::ArrayVec;
 use sp_cells::limits::{
-    CRYPTOGRAPHIC_ERASE, MOST_COMMON_NAME_BYTES, MOST_ELEMENTS, MOST_PIN_BYTES,
-    MOST_SHORT_ELEMENTS,
+    CRYPTOGRAPHIC_ERASE, MOST_COMMON_NAME_BYTES, MOST_ELEMENTS, MOST_PIN_BYTES, MOST_SHORT_ELEMENTS,
 };
 use sp_cells::values::ColumnType;
 use sp_cells::{Bytes, Cell, Column, Columns, Element, Expr, ResetTypes, Uid};
