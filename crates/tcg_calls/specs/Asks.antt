@@ -151,13 +151,13 @@ abbrev pub row_if_any : Option Tree → Option (Option Uid)
 row_if_any None = Some None
 row_if_any (Some t) = option_map Some (uid_in t)
 
-abbrev pub rows_behind : Option (Option Uid) → Option (Option ℕ) → Option Ask
-rows_behind (Some after) (Some count) = Some (Next after count)
-rows_behind _ _ = None
+abbrev pub rows_asked_behind : Option (Option Uid) → Option (Option ℕ) → Option Ask
+rows_asked_behind (Some after) (Some count) = Some (Next after count)
+rows_asked_behind _ _ = None
 
 abbrev pub next_in : Option (List (ℕ × Tree)) → Option Ask
 next_in None = None
-next_in (Some ps) = rows_behind (row_if_any (value_of next_where_parameter ps))
+next_in (Some ps) = rows_asked_behind (row_if_any (value_of next_where_parameter ps))
     (number_if_any (value_of next_count_parameter ps))
 
 abbrev pub next_of : List Tree → Option Ask

@@ -106,9 +106,9 @@ name_cell None = None
 name_cell (Some b) = Some (Bytes b)
 
 -- so many bytes at most
-abbrev pub bytes_up_to : (most : ℕ) → Option (List ℕ) → Option Cell
-bytes_up_to most None = None
-bytes_up_to most (Some b) = if nat_le (length b) most then Some (Bytes b) else None
+abbrev pub bytes_at_most : (most : ℕ) → Option (List ℕ) → Option Cell
+bytes_at_most most None = None
+bytes_at_most most (Some b) = if nat_le (length b) most then Some (Bytes b) else None
 
 abbrev pub object_of : Option UidType → Option Cell
 object_of None = None
@@ -134,8 +134,8 @@ one_name_of _ = None
 -- the cell that a value writes in a column of this type
 abbrev pub cell_in : ColumnType → Tree → Option Cell
 cell_in types.Name t = name_cell (bytes_in t)
-cell_in types.CommonName t = bytes_up_to most_common_name_bytes (bytes_in t)
-cell_in types.Secret t = bytes_up_to most_pin_bytes (bytes_in t)
+cell_in types.CommonName t = bytes_at_most most_common_name_bytes (bytes_in t)
+cell_in types.Secret t = bytes_at_most most_pin_bytes (bytes_in t)
 cell_in types.Object t = object_of (uid_in t)
 cell_in types.Number t = number_of (number_in t)
 cell_in types.Flag t = flag_of (number_in t)

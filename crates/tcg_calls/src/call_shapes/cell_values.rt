@@ -4,7 +4,7 @@ ghost use Rattle.std.specs.Prelude.{◌≡◌, ◌==◌, ◌<◌, ◌≤◌, ◌
 ghost use Rattle.std.specs.Str.{bytes_eq};
 ghost use Rattle.tcg_tokens.specs.Tree.{tree, trees, trees_of, bytes, number, list, named};
 ghost use Rattle.sp_cells.specs.Limits.{most_elements, cryptographic_erase};
-ghost use Rattle.tcg_calls.specs.CellValues.{uid_tree, element_tree, numbers_tree, cell_tree, each_of, number_in as number_of_tree, operator_in as operator_of_tree, element_in as element_of_tree, bytes_in as bytes_of_tree, numbers_in as numbers_of_trees, elements_in as elements_of_trees, expression_of, resets_of, columns_written as columns_of_numbers, name_cell, bytes_up_to, with_power_cycle, one_name_of, flag_of, mechanism_of, cell_in};
+ghost use Rattle.tcg_calls.specs.CellValues.{uid_tree, element_tree, numbers_tree, cell_tree, each_of, number_in as number_of_tree, operator_in as operator_of_tree, element_in as element_of_tree, bytes_in as bytes_of_tree, numbers_in as numbers_of_trees, elements_in as elements_of_trees, expression_of, resets_of, columns_written as columns_of_numbers, name_cell, bytes_at_most, with_power_cycle, one_name_of, flag_of, mechanism_of, cell_in};
 ghost use Rattle.tcg_calls.specs.Named.{list_in as list_of_tree};
 ghost use Rattle.sp_cells.specs.Names.{col};
 
@@ -306,8 +306,8 @@ fn name_in(alloc: Global, value: &Value) -> Result<Option<Cell>, AllocError>
 }
 
 /// So many bytes at most that a value is.
-fn bytes_up_to_in(alloc: Global, most: usize, value: &Value) -> Result<Option<Cell>, AllocError>
-    ensures { IfOk result (λ c. c ≡ bytes_up_to most (bytes_of_tree (tree value.now))) }
+fn bytes_at_most_in(alloc: Global, most: usize, value: &Value) -> Result<Option<Cell>, AllocError>
+    ensures { IfOk result (λ c. c ≡ bytes_at_most most (bytes_of_tree (tree value.now))) }
 {
     let Some(octets) = bytes_in(value) else {
         return Ok(None);
@@ -356,8 +356,8 @@ pub fn cell_of(alloc: Global, kind: ColumnType, value: &Value) -> Result<Option<
 {
     Ok(match kind {
         ColumnType::Name => name_in(alloc, value)?,
-        ColumnType::CommonName => bytes_up_to_in(alloc, MOST_COMMON_NAME_BYTES, value)?,
-        ColumnType::Secret => bytes_up_to_in(alloc, MOST_PIN_BYTES, value)?,
+        ColumnType::CommonName => bytes_at_most_in(alloc, MOST_COMMON_NAME_BYTES, value)?,
+        ColumnType::Secret => bytes_at_most_in(alloc, MOST_PIN_BYTES, value)?,
         ColumnType::Object => uid_in(value).map(Cell::Uid),
         ColumnType::Number => number_in(value).map(Cell::Number),
         ColumnType::Flag => flag_in(value),
