@@ -3,19 +3,29 @@ use Rattle.std.specs.Prelude.{◌==◌, ◌||◌, ◌-◌, ◌^◌, nat_le, ℕ,
 use Rattle.std.specs.Int.{w64, from_be_bytes}
 use Rattle.basics.specs.declared.profile.Profile.{Profile}
 use Rattle.basics.specs.declared.profile.Profile.TheVariants.{Base, Field, Opal}
-use Rattle.tcg_tokens.specs.Tree.{Tree, bytes}
+use Rattle.tcg_tokens.specs.Tree.{Tree, number, bytes, list, named}
 use Rattle.sp_cells.specs.declared.names.Uid.{Uid}
 use Rattle.sp_cells.specs.declared.names.Sp.{Sp}
 use Rattle.sp_cells.specs.declared.names.Sp.TheVariants.{Admin, Locking}
-use Rattle.sp_cells.specs.Names.{uid, mbr_table, datastore_table, get, set, authenticate, activate, revert, gen_key, revert_sp}
+use Rattle.sp_cells.specs.Names.{uid, mbr_table, datastore_table, get, set, authenticate, activate, revert, gen_key, revert_sp, next, get_acl}
 use Rattle.tcg_calls.specs.declared.call_shapes.ask.Ask.{Ask}
-use Rattle.tcg_calls.specs.declared.call_shapes.ask.Ask.TheVariants.{GetCells, GetBytes, SetCells, SetBytes, Authenticate, Activate, Revert, GenKey, RevertSp, Other}
-use Rattle.tcg_calls.specs.Parameters.{start_row_parameter, end_row_parameter, start_column_parameter, end_column_parameter, where_parameter, values_parameter, proof_parameter, keep_global_range_key_parameter}
+use Rattle.tcg_calls.specs.declared.call_shapes.ask.Ask.TheVariants.{GetCells, GetBytes, SetCells, SetBytes, Authenticate, Activate, Revert, GenKey, RevertSp, Next, GetAcl, Other}
+use Rattle.tcg_calls.specs.Parameters.{start_row_parameter, end_row_parameter, start_column_parameter, end_column_parameter, where_parameter, values_parameter, next_where_parameter, next_count_parameter, proof_parameter, keep_global_range_key_parameter}
 use Rattle.tcg_calls.specs.Named.{list_in, assignments, value_of, options, number_or, number_if_any, bytes_or_empty}
 
 -- the object or the method that eight bytes name
 abbrev pub uid_of : List ℕ → Uid
 uid_of octets = uid (from_be_bytes w64 octets)
+
+-- that of any bytes, where they are eight, and of a value
+abbrev pub uid_by : List ℕ → Option Uid
+uid_by octets = if length octets == 8 then Some (uid_of octets) else None
+
+abbrev pub uid_in : Tree → Option Uid
+uid_in (bytes b) = uid_by b
+uid_in (number n) = None
+uid_in (list ts) = None
+uid_in (named n v) = None
 
 -- the byte tables, in a session of their SP; elsewhere their names are like any other
 abbrev pub is_mbr_table : Sp → Uid → Bool
@@ -135,6 +145,33 @@ keep_in (Some ps) = keep_of (number_or 0 (value_of keep_global_range_key_paramet
 abbrev pub revert_sp_in : List Tree → Option Ask
 revert_sp_in args = keep_in (options (keep_global_range_key_parameter ∷ []) args)
 
+-- Next: behind which row, and how many rows at most; from the first row on, where none is named, and all of them, where
+-- no number is (Core 2.01, section 5.3.3.8)
+abbrev pub row_if_any : Option Tree → Option (Option Uid)
+row_if_any None = Some None
+row_if_any (Some t) = option_map Some (uid_in t)
+
+abbrev pub rows_asked_behind : Option (Option Uid) → Option (Option ℕ) → Option Ask
+rows_asked_behind (Some after) (Some count) = Some (Next after count)
+rows_asked_behind _ _ = None
+
+abbrev pub next_in : Option (List (ℕ × Tree)) → Option Ask
+next_in None = None
+next_in (Some ps) = rows_asked_behind (row_if_any (value_of next_where_parameter ps))
+    (number_if_any (value_of next_count_parameter ps))
+
+abbrev pub next_of : List Tree → Option Ask
+next_of args = next_in (options (next_where_parameter ∷ next_count_parameter ∷ []) args)
+
+-- GetACL: an object and a method, whose line of the access list is asked for (Core 2.01, section 5.3.3.13)
+abbrev pub line_asked : (object method : Option Uid) → Option Ask
+line_asked (Some object) (Some method) = Some (GetAcl object method)
+line_asked _ _ = None
+
+abbrev pub get_acl_of : List Tree → Option Ask
+get_acl_of (object ∷ method ∷ []) = line_asked (uid_in object) (uid_in method)
+get_acl_of _ = None
+
 -- the methods that the field and the opal profile have besides; the base profile does not know their names
 abbrev pub field_ask_of : Uid → List Tree → Option Ask
 field_ask_of method args =
@@ -142,10 +179,17 @@ field_ask_of method args =
     if method.0 == revert_sp.0 then revert_sp_in args else
     Some Other
 
+-- those that the opal profile has alone
+abbrev pub opal_ask_of : Uid → List Tree → Option Ask
+opal_ask_of method args =
+    if method.0 == next.0 then next_of args else
+    if method.0 == get_acl.0 then get_acl_of args else
+    field_ask_of method args
+
 abbrev pub other_ask_of : Profile → Uid → List Tree → Option Ask
 other_ask_of Base method args = Some Other
 other_ask_of Field method args = field_ask_of method args
-other_ask_of Opal method args = field_ask_of method args
+other_ask_of Opal method args = opal_ask_of method args
 
 -- what a call asks; None where its arguments have not the shape that its method wants. A method that the profile does
 -- not know takes any

@@ -6,16 +6,16 @@ use Rattle.std.specs.Str.{bytes_eq}
 use Rattle.tcg_tokens.specs.Tree.{Tree, number, bytes, list, named, trees_of}
 use Rattle.sp_cells.specs.declared.names.Uid.{Uid as UidType}
 use Rattle.sp_cells.specs.declared.cells.Cell.{Cell}
-use Rattle.sp_cells.specs.declared.cells.Cell.TheVariants.{Number, Bytes, Uid, Numbers, Expr, Columns}
+use Rattle.sp_cells.specs.declared.cells.Cell.TheVariants.{Number, Bytes, Uid, Numbers, Expr, Columns, OneName}
 use Rattle.sp_cells.specs.declared.cells.Element.{Element}
 use Rattle.sp_cells.specs.declared.cells.Element.TheVariants.{Authority, And, Or}
 use Rattle.sp_cells.specs.declared.values.ColumnType.{ColumnType}
 use Rattle.sp_cells.specs.declared.values.ColumnType.TheVariants as types
 use Rattle.sp_cells.specs.Names.{col}
 use Rattle.sp_cells.specs.Resets.{is_reset_set, reset_set, reset_numbers}
-use Rattle.sp_cells.specs.Limits.{most_pin_bytes, most_elements, cryptographic_erase}
+use Rattle.sp_cells.specs.Limits.{most_pin_bytes, most_common_name_bytes, most_short_elements, most_elements, cryptographic_erase}
 use Rattle.tcg_calls.specs.Named.{list_in}
-use Rattle.tcg_calls.specs.Asks.{uid_of}
+use Rattle.tcg_calls.specs.Asks.{uid_in}
 
 -- the types of an element of an expression: the name of an authority, and an operator
 abbrev pub authority_ref : List ℕ
@@ -43,6 +43,7 @@ cell_tree (Uid u) = uid_tree u
 cell_tree (Numbers r) = numbers_tree (reset_numbers r)
 cell_tree (Expr elements) = list (trees_of (map element_tree elements))
 cell_tree (Columns columns) = numbers_tree (map (λ c. c.0) columns)
+cell_tree (OneName b) = list (trees_of (bytes b ∷ []))
 
 -- what each of these values stands for, where each stands for something
 abbrev pub each_of : {A : Type 0} → (Tree → Option A) → List Tree → Option (List A)
@@ -53,12 +54,6 @@ number_in (number n) = Some n
 number_in (bytes b) = None
 number_in (list ts) = None
 number_in (named n v) = None
-
-abbrev pub uid_in : Tree → Option UidType
-uid_in (bytes b) = if length b == 8 then Some (uid_of b) else None
-uid_in (number n) = None
-uid_in (list ts) = None
-uid_in (named n v) = None
 
 abbrev pub operator_in : Tree → Option Element
 operator_in (number n) = if n == 0 then Some And else if n == 1 then Some Or else None
@@ -77,9 +72,15 @@ abbrev pub resets_of : Option (List ℕ) → Option Cell
 resets_of None = None
 resets_of (Some ns) = if is_reset_set ns then Some (Numbers (reset_set ns)) else None
 
-abbrev pub expression_of : Option (List Element) → Option Cell
-expression_of None = None
-expression_of (Some es) = if nat_le (length es) most_elements then Some (Expr es) else None
+-- a set of resets, where it has the power cycle (Opal SSC 2.01, sections 4.3.5.2.2 and 4.3.5.3.1)
+abbrev pub with_power_cycle : Option Cell → Option Cell
+with_power_cycle (Some (Numbers r)) = if r.power_cycle then Some (Numbers r) else None
+with_power_cycle _ = None
+
+-- an expression of so many elements at most
+abbrev pub expression_of : (most : ℕ) → Option (List Element) → Option Cell
+expression_of most None = None
+expression_of most (Some es) = if nat_le (length es) most then Some (Expr es) else None
 
 abbrev pub columns_written : Option (List ℕ) → Option Cell
 columns_written None = None
@@ -104,9 +105,10 @@ abbrev pub name_cell : Option (List ℕ) → Option Cell
 name_cell None = None
 name_cell (Some b) = Some (Bytes b)
 
-abbrev pub secret_of : Option (List ℕ) → Option Cell
-secret_of None = None
-secret_of (Some b) = if nat_le (length b) most_pin_bytes then Some (Bytes b) else None
+-- so many bytes at most
+abbrev pub bytes_at_most : (most : ℕ) → Option (List ℕ) → Option Cell
+bytes_at_most most None = None
+bytes_at_most most (Some b) = if nat_le (length b) most then Some (Bytes b) else None
 
 abbrev pub object_of : Option UidType → Option Cell
 object_of None = None
@@ -124,14 +126,23 @@ abbrev pub mechanism_of : Option ℕ → Option Cell
 mechanism_of None = None
 mechanism_of (Some n) = if n == cryptographic_erase then Some (Number n) else None
 
+-- the one name of a list
+abbrev pub one_name_of : Option (List Tree) → Option Cell
+one_name_of (Some (bytes b ∷ [])) = Some (OneName b)
+one_name_of _ = None
+
 -- the cell that a value writes in a column of this type
 abbrev pub cell_in : ColumnType → Tree → Option Cell
 cell_in types.Name t = name_cell (bytes_in t)
-cell_in types.Secret t = secret_of (bytes_in t)
+cell_in types.CommonName t = bytes_at_most most_common_name_bytes (bytes_in t)
+cell_in types.Secret t = bytes_at_most most_pin_bytes (bytes_in t)
 cell_in types.Object t = object_of (uid_in t)
 cell_in types.Number t = number_of (number_in t)
 cell_in types.Flag t = flag_of (number_in t)
 cell_in types.Mechanism t = mechanism_of (number_in t)
 cell_in types.Resets t = resets_of (numbers_in (list_in t))
-cell_in types.Expression t = expression_of (elements_in (list_in t))
+cell_in types.PowerCycleResets t = with_power_cycle (resets_of (numbers_in (list_in t)))
+cell_in types.Expression t = expression_of most_short_elements (elements_in (list_in t))
+cell_in types.LongExpression t = expression_of most_elements (elements_in (list_in t))
 cell_in types.Columns t = columns_written (numbers_in (list_in t))
+cell_in types.OneName t = one_name_of (list_in t)

@@ -4,24 +4,79 @@ use Rattle.std.specs.Prelude.{◌==◌, ℕ, List, [], ◌∷◌, Option, None, 
 use Rattle.std.specs.Borrow.{Bor}
 use Rattle.std.specs.Str.{bytes_eq}
 use Rattle.sp_cells.specs.declared.names.Column.{Column}
-use Rattle.sp_cells.specs.Names.{sp_table, tper_info_table, c_pin_table, authority_table, ace_table, locking_table, mbr_control_table, locking_info_table, table_table, key_table, data_removal_table}
+use Rattle.sp_cells.specs.Names.{sp_info_table, sp_templates_table, method_id_table, secret_protect_table, template_table, sp_table, tper_info_table, c_pin_table, authority_table, ace_table, locking_table, mbr_control_table, locking_info_table, table_table, key_table, data_removal_table}
 use Rattle.sp_cells.specs.ColumnNames.{uid_column, name_column, life_cycle_state_column, programmatic_reset_enable_column, common_name_column, pin_column, char_set_column, try_limit_column, tries_column, persistence_column, is_class_column, class_column, enabled_column, operation_column, credential_column, boolean_expr_column, columns_column, range_start_column, range_length_column, read_lock_enabled_column}
+use Rattle.sp_cells.specs.ColumnNames.{sp_id_column, sp_name_column, size_column, size_in_use_column, sp_session_timeout_column, sp_enabled_column, template_id_column, template_name_column, template_version_column, revision_number_column, instances_column, max_instances_column, protected_table_column, column_number_column, protect_mechanisms_column, org_column, effective_auth_column, sp_bytes_column, frozen_column, tper_bytes_column, gudid_column, generation_column, firmware_version_column, protocol_version_column, space_for_issuance_column, ssc_column, secure_column, hash_and_sign_column, present_certificate_column, response_sign_column, response_exch_column, limit_column, uses_column, log_column, log_to_column, mode_column}
 use Rattle.sp_cells.specs.ColumnNames.{write_lock_enabled_column, read_locked_column, write_locked_column, lock_on_reset_column, active_key_column, mbr_enable_column, mbr_done_column, mbr_done_on_reset_column, active_data_removal_mechanism_column, version_column, encrypt_support_column, max_ranges_column, max_re_encryptions_column, keys_available_cfg_column, alignment_required_column, logical_block_size_column, alignment_granularity_column, lowest_aligned_lba_column, kind_column, rows_column, mandatory_write_granularity_column, recommended_access_granularity_column}
 
 -- a column, and its name
 abbrev pub NamedColumn : Type 0
 NamedColumn = Column × List ℕ
 
+unfoldable pub sp_info_names : List NamedColumn
+sp_info_names =
+    (uid_column, codes "UID")
+    ∷ (sp_id_column, codes "SPID")
+    ∷ (sp_name_column, codes "Name")
+    ∷ (size_column, codes "Size")
+    ∷ (size_in_use_column, codes "SizeInUse")
+    ∷ (sp_session_timeout_column, codes "SPSessionTimeout")
+    ∷ (sp_enabled_column, codes "Enabled")
+    ∷ []
+
+unfoldable pub sp_templates_names : List NamedColumn
+sp_templates_names =
+    (uid_column, codes "UID")
+    ∷ (template_id_column, codes "TemplateID")
+    ∷ (template_name_column, codes "Name")
+    ∷ (template_version_column, codes "Version")
+    ∷ []
+
+unfoldable pub method_id_names : List NamedColumn
+method_id_names =
+    (uid_column, codes "UID")
+    ∷ (name_column, codes "Name")
+    ∷ (common_name_column, codes "CommonName")
+    ∷ []
+
+unfoldable pub template_names : List NamedColumn
+template_names =
+    (uid_column, codes "UID")
+    ∷ (name_column, codes "Name")
+    ∷ (revision_number_column, codes "RevisionNumber")
+    ∷ (instances_column, codes "Instances")
+    ∷ (max_instances_column, codes "MaxInstances")
+    ∷ []
+
+unfoldable pub secret_protect_names : List NamedColumn
+secret_protect_names =
+    (uid_column, codes "UID")
+    ∷ (protected_table_column, codes "Table")
+    ∷ (column_number_column, codes "ColumnNumber")
+    ∷ (protect_mechanisms_column, codes "ProtectMechanisms")
+    ∷ []
+
 unfoldable pub sp_names : List NamedColumn
 sp_names =
     (uid_column, codes "UID")
     ∷ (name_column, codes "Name")
+    ∷ (org_column, codes "ORG")
+    ∷ (effective_auth_column, codes "EffectiveAuth")
+    ∷ (sp_bytes_column, codes "Bytes")
     ∷ (life_cycle_state_column, codes "LifeCycleState")
+    ∷ (frozen_column, codes "Frozen")
     ∷ []
 
 unfoldable pub tper_info_names : List NamedColumn
 tper_info_names =
     (uid_column, codes "UID")
+    ∷ (tper_bytes_column, codes "Bytes")
+    ∷ (gudid_column, codes "GUDID")
+    ∷ (generation_column, codes "Generation")
+    ∷ (firmware_version_column, codes "FirmwareVersion")
+    ∷ (protocol_version_column, codes "ProtocolVersion")
+    ∷ (space_for_issuance_column, codes "SpaceForIssuance")
+    ∷ (ssc_column, codes "SSC")
     ∷ (programmatic_reset_enable_column, codes "ProgrammaticResetEnable")
     ∷ []
 
@@ -45,8 +100,17 @@ authority_names =
     ∷ (is_class_column, codes "IsClass")
     ∷ (class_column, codes "Class")
     ∷ (enabled_column, codes "Enabled")
+    ∷ (secure_column, codes "Secure")
+    ∷ (hash_and_sign_column, codes "HashAndSign")
+    ∷ (present_certificate_column, codes "PresentCertificate")
     ∷ (operation_column, codes "Operation")
     ∷ (credential_column, codes "Credential")
+    ∷ (response_sign_column, codes "ResponseSign")
+    ∷ (response_exch_column, codes "ResponseExch")
+    ∷ (limit_column, codes "Limit")
+    ∷ (uses_column, codes "Uses")
+    ∷ (log_column, codes "Log")
+    ∷ (log_to_column, codes "LogTo")
     ∷ []
 
 unfoldable pub ace_names : List NamedColumn
@@ -112,6 +176,7 @@ key_names =
     (uid_column, codes "UID")
     ∷ (name_column, codes "Name")
     ∷ (common_name_column, codes "CommonName")
+    ∷ (mode_column, codes "Mode")
     ∷ []
 
 unfoldable pub data_removal_names : List NamedColumn
@@ -134,6 +199,11 @@ names_of_table table =
     if table == table_table then table_names else
     if table == key_table then key_names else
     if table == data_removal_table then data_removal_names else
+    if table == sp_info_table then sp_info_names else
+    if table == sp_templates_table then sp_templates_names else
+    if table == method_id_table then method_id_names else
+    if table == template_table then template_names else
+    if table == secret_protect_table then secret_protect_names else
     []
 
 abbrev pub column_name_in : List NamedColumn → Column → Option (List ℕ)

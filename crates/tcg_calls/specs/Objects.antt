@@ -4,9 +4,10 @@ use Rattle.std.specs.Prelude.{◌==◌, ◌+◌, ◌++◌, ℕ, zero, suc, List,
 use Rattle.std.specs.Str.{bytes_eq}
 use Rattle.sp_cells.specs.declared.names.TheConstants.{RANGES, USERS, ADMINS}
 use Rattle.sp_cells.specs.declared.names.Uid.{Uid}
-use Rattle.sp_cells.specs.Names.{this_sp, admin_sp, locking_sp, tper_info, anybody, sid, psid, admins_class, users_class, admin_uid, user_uid, c_pin_sid, c_pin_msid, c_pin_psid, admin_pin_uid, user_pin_uid, range_uid, locking_info, key_uid, mbr_control, mbr_table, mbr_table_row, datastore_table, datastore_table_row, data_removal}
-use Rattle.sp_cells.specs.Names.{ace_anybody, ace_admins, ace_anybody_get_common_name, ace_c_pin_sid_get_nopin, ace_c_pin_sid_set_pin, ace_c_pin_msid_get_pin, ace_c_pin_get_psid_nopin, ace_sp_psid, ace_sp_sid, ace_tper_info_set_programmatic_reset_enable, ace_ace_set_boolean_expression, ace_authority_set_enabled, ace_c_pin_admins_get_all_nopin, ace_c_pin_admins_set_pin, ace_c_pin_user_set_pin, ace_range_get, ace_key_gen_key, ace_range_set_read_locked, ace_range_set_write_locked, ace_locking_global_range_admins_set, ace_locking_admins_set, ace_mbr_control_admins_set, ace_mbr_control_set_done_to_dor, ace_datastore_get_all, ace_datastore_set_all, ace_data_removal_set_active}
-use Rattle.sp_cells.specs.Names.{get, set, authenticate, revert, activate, gen_key, revert_sp, session_manager, properties, start_session, sync_session}
+use Rattle.sp_cells.specs.Names.{table_table, sp_info_table, sp_templates_table, method_id_table, access_control_table, ace_table, authority_table, c_pin_table, secret_protect_table, tper_info_table, template_table, sp_table, locking_info_table, locking_table, mbr_control_table, key_table, data_removal_table, table_uid, table_row}
+use Rattle.sp_cells.specs.Names.{this_sp, admin_sp, locking_sp, sp_info, sp_template_base, sp_template_own, template_base, template_admin, template_locking, access_control, secret_protect_key, tper_info, anybody, sid, psid, admins_class, makers_class, admin_sp_admin, users_class, admin_uid, user_uid, c_pin_sid, c_pin_msid, c_pin_admin_sp_admin, c_pin_psid, admin_pin_uid, user_pin_uid, range_uid, locking_info, key_uid, mbr_control, mbr_table, mbr_table_row, datastore_table, datastore_table_row, data_removal}
+use Rattle.sp_cells.specs.Names.{ace_anybody, ace_admins, ace_anybody_get_common_name, ace_admins_set_common_name, ace_user_set_common_name, ace_ace_get_all, ace_authority_get_all, ace_key_mode, ace_set_enabled, ace_c_pin_sid_get_nopin, ace_c_pin_sid_set_pin, ace_c_pin_msid_get_pin, ace_c_pin_get_psid_nopin, ace_sp_psid, ace_sp_sid, ace_tper_info_set_programmatic_reset_enable, ace_ace_set_boolean_expression, ace_authority_set_enabled, ace_c_pin_admins_get_all_nopin, ace_c_pin_admins_set_pin, ace_c_pin_user_set_pin, ace_range_get, ace_key_gen_key, ace_range_set_read_locked, ace_range_set_write_locked, ace_locking_global_range_admins_set, ace_locking_admins_set, ace_mbr_control_admins_set, ace_mbr_control_set_done_to_dor, ace_datastore_get_all, ace_datastore_set_all, ace_data_removal_set_active}
+use Rattle.sp_cells.specs.Names.{get, set, authenticate, revert, activate, gen_key, revert_sp, next, get_acl, random, session_manager, properties, start_session, sync_session}
 
 -- an object and its name
 abbrev pub Named : Type 0
@@ -26,6 +27,52 @@ object_singles =
     ∷ (datastore_table, codes "DataStore")
     ∷ (datastore_table_row, codes "Table_DataStore")
     ∷ (data_removal, codes "DataRemovalMechanism")
+    ∷ (sp_info, codes "SPInfo")
+    ∷ (sp_template_base, codes "SPTemplates_Base")
+    ∷ (sp_template_own, codes "SPTemplates_Own")
+    ∷ (template_base, codes "Template_Base")
+    ∷ (template_admin, codes "Template_Admin")
+    ∷ (template_locking, codes "Template_Locking")
+    ∷ (secret_protect_key, codes "SecretProtect_K_AES_256_Key")
+    ∷ []
+
+-- the tables that have more than one row
+unfoldable pub table_singles : List Named
+table_singles =
+    (table_uid table_table, codes "Table")
+    ∷ (table_uid sp_templates_table, codes "SPTemplates")
+    ∷ (table_uid method_id_table, codes "MethodID")
+    ∷ (access_control, codes "AccessControl")
+    ∷ (table_uid ace_table, codes "ACE")
+    ∷ (table_uid authority_table, codes "Authority")
+    ∷ (table_uid c_pin_table, codes "C_PIN")
+    ∷ (table_uid secret_protect_table, codes "SecretProtect")
+    ∷ (table_uid template_table, codes "Template")
+    ∷ (table_uid sp_table, codes "SP")
+    ∷ (table_uid locking_table, codes "Locking")
+    ∷ (table_uid key_table, codes "K_AES_256")
+    ∷ []
+
+-- the rows of the Table table, but for those of the byte tables
+unfoldable pub table_row_singles : List Named
+table_row_singles =
+    (table_row table_table, codes "Table_Table")
+    ∷ (table_row sp_info_table, codes "Table_SPInfo")
+    ∷ (table_row sp_templates_table, codes "Table_SPTemplates")
+    ∷ (table_row method_id_table, codes "Table_MethodID")
+    ∷ (table_row access_control_table, codes "Table_AccessControl")
+    ∷ (table_row ace_table, codes "Table_ACE")
+    ∷ (table_row authority_table, codes "Table_Authority")
+    ∷ (table_row c_pin_table, codes "Table_C_PIN")
+    ∷ (table_row secret_protect_table, codes "Table_SecretProtect")
+    ∷ (table_row tper_info_table, codes "Table_TPerInfo")
+    ∷ (table_row template_table, codes "Table_Template")
+    ∷ (table_row sp_table, codes "Table_SP")
+    ∷ (table_row locking_info_table, codes "Table_LockingInfo")
+    ∷ (table_row locking_table, codes "Table_Locking")
+    ∷ (table_row mbr_control_table, codes "Table_MBRControl")
+    ∷ (table_row key_table, codes "Table_K_AES_256")
+    ∷ (table_row data_removal_table, codes "Table_DataRemovalMechanism")
     ∷ []
 
 -- authorities, and the rows of their PINs
@@ -39,6 +86,9 @@ authority_singles =
     ∷ (c_pin_sid, codes "C_PIN_SID")
     ∷ (c_pin_msid, codes "C_PIN_MSID")
     ∷ (c_pin_psid, codes "C_PIN_PSID")
+    ∷ (makers_class, codes "Makers")
+    ∷ (admin_sp_admin, codes "AdminSP_Admin1")
+    ∷ (c_pin_admin_sp_admin, codes "C_PIN_AdminSP_Admin1")
     ∷ []
 
 -- the ACEs of the Admin SP, and those of both
@@ -57,6 +107,7 @@ admin_ace_singles =
       codes "ACE_TPerInfo_Set_ProgrammaticResetEnable",
     )
     ∷ (ace_data_removal_set_active, codes "ACE_DataRemovalMechanism_Set_Active")
+    ∷ (ace_set_enabled, codes "ACE_Set_Enabled")
     ∷ []
 
 -- the ACEs of the Locking SP
@@ -73,6 +124,10 @@ locking_ace_singles =
     ∷ (ace_mbr_control_set_done_to_dor, codes "ACE_MBRControl_Set_DoneToDOR")
     ∷ (ace_datastore_get_all, codes "ACE_DataStore_Get_All")
     ∷ (ace_datastore_set_all, codes "ACE_DataStore_Set_All")
+    ∷ (ace_admins_set_common_name, codes "ACE_Admins_Set_CommonName")
+    ∷ (ace_ace_get_all, codes "ACE_ACE_Get_All")
+    ∷ (ace_authority_get_all, codes "ACE_Authority_Get_All")
+    ∷ (ace_key_mode, codes "ACE_K_AES_Mode")
     ∷ []
 
 -- the session manager, and the methods
@@ -89,6 +144,9 @@ method_singles =
     ∷ (activate, codes "Activate")
     ∷ (gen_key, codes "GenKey")
     ∷ (revert_sp, codes "RevertSP")
+    ∷ (next, codes "Next")
+    ∷ (get_acl, codes "GetACL")
+    ∷ (random, codes "Random")
     ∷ []
 
 -- the members of a family from a number on, so many
@@ -107,7 +165,7 @@ range_text (suc n) = codes "Range" ++ decimal (suc n)
 abbrev pub range_between : (before behind : List ℕ) → ℕ → List ℕ
 range_between before behind n = before ++ range_text n ++ behind
 
--- the families of authorities, of their PINs and of the ACEs of these (Opal SSC 2.01, section 4.3)
+-- the families of authorities, of their PINs and of the ACEs of both (Opal SSC 2.01, section 4.3)
 unfoldable pub of_numbers : (ℕ → Uid) → (before behind : List ℕ) → (count : ℕ) → List Named
 of_numbers object before behind count = members object (number_between before behind) 1 count
 
@@ -118,6 +176,7 @@ authority_families =
     ++ of_numbers admin_pin_uid (codes "C_PIN_Admin") [] ADMINS
     ++ of_numbers user_pin_uid (codes "C_PIN_User") [] USERS
     ++ of_numbers ace_c_pin_user_set_pin (codes "ACE_C_PIN_User") (codes "_Set_PIN") USERS
+    ++ of_numbers ace_user_set_common_name (codes "ACE_User") (codes "_Set_CommonName") USERS
 
 -- those of the ranges, of their keys and of the ACEs of both; the global range is number 0
 unfoldable pub of_ranges : (ℕ → Uid) → (before behind : List ℕ) → List Named
@@ -135,8 +194,8 @@ range_families =
 -- all that have a name
 abbrev pub singles : List Named
 singles =
-    object_singles ++ authority_singles ++ admin_ace_singles ++ locking_ace_singles
-    ++ method_singles
+    object_singles ++ table_singles ++ table_row_singles ++ authority_singles
+    ++ admin_ace_singles ++ locking_ace_singles ++ method_singles
 
 unfoldable pub named_objects : List Named
 named_objects = singles ++ authority_families ++ range_families

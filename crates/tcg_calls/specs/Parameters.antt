@@ -22,6 +22,13 @@ where_parameter = 0
 abbrev pub values_parameter : ℕ
 values_parameter = 1
 
+-- Next: the row behind which it goes on, and how many rows it gives at most (Core 2.01, section 5.3.3.8)
+abbrev pub next_where_parameter : ℕ
+next_where_parameter = 0
+
+abbrev pub next_count_parameter : ℕ
+next_count_parameter = 1
+
 -- Authenticate: what proves the authority
 abbrev pub proof_parameter : ℕ
 proof_parameter = 0

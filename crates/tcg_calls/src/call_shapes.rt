@@ -12,8 +12,8 @@ mod numbers;
 pub mod parameter;
 pub mod status;
 
-pub use ask::{Ask, Octets, read_ask, uid_of};
-pub use cell_values::{bytes_value, cell_of, list_value, named_value, number_in, uid_in, value_of};
+pub use ask::{Ask, Octets, read_ask, uid_in, uid_of};
+pub use cell_values::{bytes_value, cell_of, list_value, named_value, number_in, value_of};
 pub use laws::{laws_of_cells, laws_of_limits};
 pub use named::{Assignments, assigned, bytes_or_empty, list_in, read_assignments, read_options};
 pub use numbers::laws_of_numbers;

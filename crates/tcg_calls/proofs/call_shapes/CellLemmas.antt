@@ -1,10 +1,11 @@
 -- Values that are made, by what they are.
-use Rattle.std.proofs.Common.{◌≡◌, ℕ, List as Seq, [], ◌∷◌, ◌++◌, map, length, drop, get_or, refl, ap, arith, Vec, Box, Global, Option, None, Some, is_some, Bool, true, false, if◌then◌else◌, ◌<◌, ◌+◌, suc, append_assoc, nat_le, sym, ◌∙◌, take, add-one}
+use Rattle.std.proofs.Common.{◌≡◌, ℕ, List as Seq, [], ◌∷◌, ◌++◌, map, length, drop, get_or, refl, ap, arith, Vec, Box, Global, Option, None, Some, is_some, Bool, true, false, if◌then◌else◌, ◌<◌, ◌≤◌, ◌+◌, suc, append_assoc, nat_le, sym, ◌∙◌, take, add-one}
 use Rattle.std.proofs.lemmas.Bool.Decides.{nat_tests}
 use Rattle.std.proofs.lemmas.List.{length-map, map-append}
 use Rattle.std.proofs.Math.Seq.{take-suc}
 use Rattle.std.specs.List.{list_all, filter_map}
-use Rattle.sp_cells.specs.Limits.{most_elements}
+use Rattle.sp_cells.specs.declared.cells.Cell.TheVariants.{Expr}
+use Rattle.sp_cells.specs.declared.cells.Element.{Element}
 use Rattle.tcg_calls.specs.CellValues.{each_of, element_in, expression_of}
 use Rattle.tcg_calls.proofs.call_shapes.NamedLemmas.{trees_from}
 use Rattle.tcg_tokens.specs.declared.value.Value.{Value, List, Named}
@@ -53,12 +54,25 @@ each_length : {A : Type 0} (f : Tree → Option A) (ts : Seq Tree) → list_all 
 each_length f [] h = refl
 each_length f (t ∷ ts) h = each_head f t ts (f t) refl h (each_length f ts)
 
-long_by : (ts : Seq Tree) (b : Bool) → list_all (λ t. is_some (element_in t)) ts ≡ b → most_elements < length ts → expression_of (if b then Some (filter_map element_in ts) else None) ≡ None
-long_by ts false e lt = refl
-long_by ts true e lt =
+long_by : (most : ℕ) (ts : Seq Tree) (b : Bool) → list_all (λ t. is_some (element_in t)) ts ≡ b → most < length ts → expression_of most (if b then Some (filter_map element_in ts) else None) ≡ None
+long_by most ts false e lt = refl
+long_by most ts true e lt =
     let n : length (filter_map element_in ts) ≡ length ts = each_length element_in ts e in
-    let over : nat_le (length (filter_map element_in ts)) most_elements ≡ false = rw n (grind (arith, nat_tests)) in
+    let over : nat_le (length (filter_map element_in ts)) most ≡ false = rw n (grind (arith, nat_tests)) in
     rw over refl
 
-pub too_long : (vs : Seq Value) → most_elements < length vs → expression_of (each_of element_in (map tree vs)) ≡ None
-too_long vs lt = long_by (map tree vs) (list_all (λ t. is_some (element_in t)) (map tree vs)) refl (rw length-map lt)
+pub too_long : (most : ℕ) (vs : Seq Value) → most < length vs → expression_of most (each_of element_in (map tree vs)) ≡ None
+too_long most vs lt = long_by most (map tree vs) (list_all (λ t. is_some (element_in t)) (map tree vs)) refl (rw length-map lt)
+
+each_some : {A : Type 0} (f : Tree → Option A) (ts : Seq Tree) (b : Bool) (xs : Seq A) → list_all (λ t. is_some (f t)) ts ≡ b → Some xs ≡ (if b then Some (filter_map f ts) else None) → length xs ≡ length ts
+each_some f ts false xs e h = cc h
+each_some f ts true xs e h = ap length (here h) ∙ each_length f ts e where
+  here : {A : Type 0} {a b : Seq A} → Some a ≡ Some b → a ≡ b
+  here h = cc
+
+-- an expression of no more elements than there may be
+pub fits : (most : ℕ) (vs : Seq Value) (es : Seq Element) → length vs ≤ most → Some es ≡ each_of element_in (map tree vs) → Some (Expr es) ≡ expression_of most (each_of element_in (map tree vs))
+fits most vs es le h =
+    let n : length es ≡ length vs = each_some element_in (map tree vs) (list_all (λ t. is_some (element_in t)) (map tree vs)) es refl h ∙ length-map vs tree in
+    let within : nat_le (length es) most ≡ true = rw n (grind (arith, nat_tests)) in
+    rw (← h) (rw within refl)

@@ -7,16 +7,17 @@ use Rattle.tcg_tokens.specs.Tree.{Tree, number, trees_of}
 use Rattle.sp_cells.specs.declared.names.Uid.{Uid as UidType}
 use Rattle.sp_cells.specs.declared.names.Column.{Column}
 use Rattle.sp_cells.specs.declared.cells.Cell.{Cell}
-use Rattle.sp_cells.specs.declared.cells.Cell.TheVariants.{Number, Bytes, Uid, Numbers, Expr, Columns}
+use Rattle.sp_cells.specs.declared.cells.Cell.TheVariants.{Number, Bytes, Uid, Numbers, Expr, Columns, OneName}
 use Rattle.sp_cells.specs.declared.cells.ResetTypes.{ResetTypes}
 use Rattle.sp_cells.specs.declared.cells.Element.{Element}
 use Rattle.sp_cells.specs.declared.cells.Element.TheVariants.{Authority, And, Or}
 use Rattle.sp_cells.specs.declared.values.ColumnType.TheVariants as types
 use Rattle.sp_cells.specs.Names.{uid, col}
-use Rattle.sp_cells.specs.Limits.{most_elements}
+use Rattle.sp_cells.specs.Limits.{most_short_elements, most_elements}
 use Rattle.sp_cells.specs.Resets.{reset_numbers}
 use Rattle.tcg_calls.specs.Named.{values_of}
-use Rattle.tcg_calls.specs.CellValues.{uid_tree, uid_in, element_tree, element_in, number_in, each_of, resets_of, expression_of, columns_written}
+use Rattle.tcg_calls.specs.Asks.{uid_in}
+use Rattle.tcg_calls.specs.CellValues.{uid_tree, element_tree, element_in, number_in, each_of, resets_of, with_power_cycle, expression_of, columns_written}
 use Rattle.tcg_calls.specs.CallShapesLaws.{is_short, is_short_element, RoundTrip}
 
 clash : false ≡ true → ⊥
@@ -78,12 +79,16 @@ two true true h = (refl, refl)
 two true false h = absurd (clash h)
 two false b h = absurd (clash h)
 
-expression_back : (es : List Element) → (list_all is_short_element es && nat_le (length es) most_elements) ≡ true → expression_of (each_of element_in (values_of (trees_of (map element_tree es)))) ≡ Some (Expr es)
-expression_back es h =
-    let t = two (list_all is_short_element es) (nat_le (length es) most_elements) h in
-    ap (λ ts. expression_of (each_of element_in ts)) (values_back (map element_tree es))
-    ∙ ap expression_of (elements_back es t.0)
+expression_back : (most : ℕ) (es : List Element) → (list_all is_short_element es && nat_le (length es) most) ≡ true → expression_of most (each_of element_in (values_of (trees_of (map element_tree es)))) ≡ Some (Expr es)
+expression_back most es h =
+    let t = two (list_all is_short_element es) (nat_le (length es) most) h in
+    ap (λ ts. expression_of most (each_of element_in ts)) (values_back (map element_tree es))
+    ∙ ap (expression_of most) (elements_back es t.0)
     ∙ ap (λ b. if b then Some (Expr es) else None) t.1
+
+-- the resets of a set are those that are written
+written_back : (r : ResetTypes) → resets_of (each_of number_in (values_of (trees_of (map number (reset_numbers r))))) ≡ Some (Numbers r)
+written_back r = ap (λ ts. resets_of (each_of number_in ts)) (values_back (map number (reset_numbers r))) ∙ ap resets_of (numbers_back (reset_numbers r)) ∙ resets_back r
 
 pub round_trip : RoundTrip
 round_trip types.Name (Bytes b) h s = refl
@@ -95,51 +100,88 @@ round_trip types.Object (Uid u) h s = ap (λ o. object_from o) (uid_back u s) wh
 round_trip types.Number (Number n) h s = refl
 round_trip types.Flag (Number n) h s = ap (λ t. if t then Some (Number n) else None) h
 round_trip types.Mechanism (Number n) h s = ap (λ t. if t then Some (Number n) else None) h
-round_trip types.Resets (Numbers r) h s = ap (λ ts. resets_of (each_of number_in ts)) (values_back (map number (reset_numbers r))) ∙ ap resets_of (numbers_back (reset_numbers r)) ∙ resets_back r
-round_trip types.Expression (Expr es) h s = expression_back es s
+round_trip types.CommonName (Bytes b) h s = ap (λ t. if t then Some (Bytes b) else None) h
+round_trip types.OneName (OneName b) h s = refl
+round_trip types.Resets (Numbers r) h s = written_back r
+round_trip types.PowerCycleResets (Numbers r) h s = ap with_power_cycle (written_back r) ∙ ap (λ t. if t then Some (Numbers r) else None) h
+round_trip types.Expression (Expr es) h s = expression_back most_short_elements es s
+round_trip types.LongExpression (Expr es) h s = expression_back most_elements es s
 round_trip types.Columns (Columns cs) h s = ap (λ ts. columns_written (each_of number_in ts)) (values_back (map number (map (λ (c : Column). c.0) cs))) ∙ ap columns_written (numbers_back (map (λ (c : Column). c.0) cs)) ∙ ap (λ l. Some (Columns l)) (columns_back cs)
 round_trip types.Name (Number n) h s = absurd (clash h)
 round_trip types.Name (Uid u) h s = absurd (clash h)
 round_trip types.Name (Numbers r) h s = absurd (clash h)
 round_trip types.Name (Expr es) h s = absurd (clash h)
 round_trip types.Name (Columns cs) h s = absurd (clash h)
+round_trip types.Name (OneName b) h s = absurd (clash h)
+round_trip types.CommonName (Number n) h s = absurd (clash h)
+round_trip types.CommonName (Uid u) h s = absurd (clash h)
+round_trip types.CommonName (Numbers r) h s = absurd (clash h)
+round_trip types.CommonName (Expr es) h s = absurd (clash h)
+round_trip types.CommonName (Columns cs) h s = absurd (clash h)
+round_trip types.CommonName (OneName b) h s = absurd (clash h)
 round_trip types.Secret (Number n) h s = absurd (clash h)
 round_trip types.Secret (Uid u) h s = absurd (clash h)
 round_trip types.Secret (Numbers r) h s = absurd (clash h)
 round_trip types.Secret (Expr es) h s = absurd (clash h)
 round_trip types.Secret (Columns cs) h s = absurd (clash h)
+round_trip types.Secret (OneName b) h s = absurd (clash h)
 round_trip types.Object (Number n) h s = absurd (clash h)
 round_trip types.Object (Bytes b) h s = absurd (clash h)
 round_trip types.Object (Numbers r) h s = absurd (clash h)
 round_trip types.Object (Expr es) h s = absurd (clash h)
 round_trip types.Object (Columns cs) h s = absurd (clash h)
+round_trip types.Object (OneName b) h s = absurd (clash h)
 round_trip types.Number (Bytes b) h s = absurd (clash h)
 round_trip types.Number (Uid u) h s = absurd (clash h)
 round_trip types.Number (Numbers r) h s = absurd (clash h)
 round_trip types.Number (Expr es) h s = absurd (clash h)
 round_trip types.Number (Columns cs) h s = absurd (clash h)
+round_trip types.Number (OneName b) h s = absurd (clash h)
 round_trip types.Flag (Bytes b) h s = absurd (clash h)
 round_trip types.Flag (Uid u) h s = absurd (clash h)
 round_trip types.Flag (Numbers r) h s = absurd (clash h)
 round_trip types.Flag (Expr es) h s = absurd (clash h)
 round_trip types.Flag (Columns cs) h s = absurd (clash h)
+round_trip types.Flag (OneName b) h s = absurd (clash h)
 round_trip types.Mechanism (Bytes b) h s = absurd (clash h)
 round_trip types.Mechanism (Uid u) h s = absurd (clash h)
 round_trip types.Mechanism (Numbers r) h s = absurd (clash h)
 round_trip types.Mechanism (Expr es) h s = absurd (clash h)
 round_trip types.Mechanism (Columns cs) h s = absurd (clash h)
+round_trip types.Mechanism (OneName b) h s = absurd (clash h)
 round_trip types.Resets (Number n) h s = absurd (clash h)
 round_trip types.Resets (Bytes b) h s = absurd (clash h)
 round_trip types.Resets (Uid u) h s = absurd (clash h)
 round_trip types.Resets (Expr es) h s = absurd (clash h)
 round_trip types.Resets (Columns cs) h s = absurd (clash h)
+round_trip types.Resets (OneName b) h s = absurd (clash h)
+round_trip types.PowerCycleResets (Number n) h s = absurd (clash h)
+round_trip types.PowerCycleResets (Bytes b) h s = absurd (clash h)
+round_trip types.PowerCycleResets (Uid u) h s = absurd (clash h)
+round_trip types.PowerCycleResets (Expr es) h s = absurd (clash h)
+round_trip types.PowerCycleResets (Columns cs) h s = absurd (clash h)
+round_trip types.PowerCycleResets (OneName b) h s = absurd (clash h)
 round_trip types.Expression (Number n) h s = absurd (clash h)
 round_trip types.Expression (Bytes b) h s = absurd (clash h)
 round_trip types.Expression (Uid u) h s = absurd (clash h)
 round_trip types.Expression (Numbers r) h s = absurd (clash h)
 round_trip types.Expression (Columns cs) h s = absurd (clash h)
+round_trip types.Expression (OneName b) h s = absurd (clash h)
+round_trip types.LongExpression (Number n) h s = absurd (clash h)
+round_trip types.LongExpression (Bytes b) h s = absurd (clash h)
+round_trip types.LongExpression (Uid u) h s = absurd (clash h)
+round_trip types.LongExpression (Numbers r) h s = absurd (clash h)
+round_trip types.LongExpression (Columns cs) h s = absurd (clash h)
+round_trip types.LongExpression (OneName b) h s = absurd (clash h)
 round_trip types.Columns (Number n) h s = absurd (clash h)
 round_trip types.Columns (Bytes b) h s = absurd (clash h)
 round_trip types.Columns (Uid u) h s = absurd (clash h)
 round_trip types.Columns (Numbers r) h s = absurd (clash h)
 round_trip types.Columns (Expr es) h s = absurd (clash h)
+round_trip types.Columns (OneName b) h s = absurd (clash h)
+round_trip types.OneName (Number n) h s = absurd (clash h)
+round_trip types.OneName (Bytes b) h s = absurd (clash h)
+round_trip types.OneName (Uid u) h s = absurd (clash h)
+round_trip types.OneName (Numbers r) h s = absurd (clash h)
+round_trip types.OneName (Expr es) h s = absurd (clash h)
+round_trip types.OneName (Columns cs) h s = absurd (clash h)

@@ -8,7 +8,7 @@ use Rattle.std.proofs.lemmas.Bool.Decides.{nat_tests}
 use Rattle.std.proofs.lemmas.Slice.Eq.{bytes_eq-Decides}
 use Rattle.sp_cells.specs.declared.names.Uid.{Uid}
 use Rattle.sp_cells.specs.Names.{uid}
-use Rattle.tcg_calls.specs.Objects.{Named, name_in, object_in, named_objects, object_name, object_by_name, of_numbers, of_ranges, object_singles, authority_singles, admin_ace_singles, locking_ace_singles, method_singles}
+use Rattle.tcg_calls.specs.Objects.{Named, name_in, object_in, named_objects, object_name, object_by_name, of_numbers, of_ranges, object_singles, table_singles, table_row_singles, authority_singles, admin_ace_singles, locking_ace_singles, method_singles}
 use Rattle.tcg_calls.specs.Laws.{ObjectNameLaw}
 
 abbrev is_name : List ℕ → Option (List ℕ) → Bool
@@ -23,7 +23,7 @@ abbrev is_found : Named → Bool
 is_found e = is_name e.1 (object_name e.0) && is_object e.0 (object_by_name e.1)
 
 all_found : list_all is_found named_objects ≡ true
-unfolding named_objects object_singles authority_singles admin_ace_singles locking_ace_singles method_singles of_numbers of_ranges digits
+unfolding named_objects object_singles table_singles table_row_singles authority_singles admin_ace_singles locking_ace_singles method_singles of_numbers of_ranges digits
 all_found = refl
 
 same_uid : (u v : Uid) → (u.0 == v.0) ≡ true → u ≡ v

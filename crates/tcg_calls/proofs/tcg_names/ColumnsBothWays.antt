@@ -6,8 +6,8 @@ use Rattle.std.proofs.lemmas.Bool.{cases_Bool}
 use Rattle.std.proofs.lemmas.Bool.Decides.{nat_tests}
 use Rattle.std.proofs.lemmas.Slice.Eq.{bytes_eq-Decides}
 use Rattle.sp_cells.specs.declared.names.Column.{Column}
-use Rattle.sp_cells.specs.Names.{col, sp_table, tper_info_table, c_pin_table, authority_table, ace_table, locking_table, mbr_control_table, locking_info_table, table_table, key_table, data_removal_table}
-use Rattle.tcg_calls.specs.Columns.{NamedColumn, column_name_in, column_in, names_of_table, sp_names, tper_info_names, c_pin_names, authority_names, ace_names, locking_names, mbr_control_names, locking_info_names, table_names, key_names, data_removal_names}
+use Rattle.sp_cells.specs.Names.{col, sp_info_table, sp_templates_table, method_id_table, template_table, secret_protect_table, sp_table, tper_info_table, c_pin_table, authority_table, ace_table, locking_table, mbr_control_table, locking_info_table, table_table, key_table, data_removal_table}
+use Rattle.tcg_calls.specs.Columns.{NamedColumn, column_name_in, column_in, names_of_table, sp_info_names, sp_templates_names, method_id_names, template_names, secret_protect_names, sp_names, tper_info_names, c_pin_names, authority_names, ace_names, locking_names, mbr_control_names, locking_info_names, table_names, key_names, data_removal_names}
 use Rattle.tcg_calls.specs.Laws.{ColumnNameLaw}
 
 abbrev is_name : List ℕ → Option (List ℕ) → Bool
@@ -29,7 +29,7 @@ pick true xs ys here there = here
 pick false xs ys here there = there
 
 all_found : (table : ℕ) → AllFound (names_of_table table)
-unfolding sp_names tper_info_names c_pin_names authority_names ace_names locking_names mbr_control_names locking_info_names table_names key_names data_removal_names
+unfolding sp_info_names sp_templates_names method_id_names template_names secret_protect_names sp_names tper_info_names c_pin_names authority_names ace_names locking_names mbr_control_names locking_info_names table_names key_names data_removal_names
 all_found table =
     pick (table == sp_table) _ _ refl (
     pick (table == tper_info_table) _ _ refl (
@@ -42,7 +42,12 @@ all_found table =
     pick (table == table_table) _ _ refl (
     pick (table == key_table) _ _ refl (
     pick (table == data_removal_table) _ _ refl (
-    refl)))))))))))
+    pick (table == sp_info_table) _ _ refl (
+    pick (table == sp_templates_table) _ _ refl (
+    pick (table == method_id_table) _ _ refl (
+    pick (table == template_table) _ _ refl (
+    pick (table == secret_protect_table) _ _ refl (
+    refl))))))))))))))))
 
 same_column : (u v : Column) → (u.0 == v.0) ≡ true → u ≡ v
 same_column u v is = let e : u.0 ≡ v.0 = grind (arith, nat_tests, is) in ap col e

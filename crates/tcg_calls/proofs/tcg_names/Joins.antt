@@ -3,8 +3,8 @@ use Rattle.std.proofs.Common.{◌≡◌, ℕ, ◌++◌, List, [], ◌∷◌, ref
 use Rattle.std.specs.Option.{option_or}
 use Rattle.sp_cells.specs.declared.names.Uid.{Uid}
 use Rattle.sp_cells.specs.declared.names.TheConstants.{USERS, ADMINS}
-use Rattle.sp_cells.specs.Names.{admin_base, user_base, admin_pin_base, user_pin_base, user_ace_base, range_base, key_base, gen_key_ace_base, range_get_ace_base, read_locked_ace_base, write_locked_ace_base, global_range, global_key, admin_uid, user_uid, admin_pin_uid, user_pin_uid, ace_c_pin_user_set_pin, range_uid, key_uid, ace_key_gen_key, ace_range_get, ace_range_set_read_locked, ace_range_set_write_locked}
-use Rattle.sp_cells.specs.Numbers.{admin_number, user_number, admin_pin_number, user_pin_number, user_ace_number, range_number, key_number, gen_key_ace_number, range_get_ace_number, read_locked_ace_number, write_locked_ace_number}
+use Rattle.sp_cells.specs.Names.{admin_base, user_base, admin_pin_base, user_pin_base, user_ace_base, user_common_name_ace_base, range_base, key_base, gen_key_ace_base, range_get_ace_base, read_locked_ace_base, write_locked_ace_base, global_range, global_key, admin_uid, user_uid, admin_pin_uid, user_pin_uid, ace_c_pin_user_set_pin, ace_user_set_common_name, range_uid, key_uid, ace_key_gen_key, ace_range_get, ace_range_set_read_locked, ace_range_set_write_locked}
+use Rattle.sp_cells.specs.Numbers.{admin_number, user_number, admin_pin_number, user_pin_number, user_ace_number, user_common_name_ace_number, range_number, key_number, gen_key_ace_number, range_get_ace_number, read_locked_ace_number, write_locked_ace_number}
 use Rattle.tcg_calls.specs.Objects.{Named, name_in, object_in, of_numbers, of_ranges, number_between, range_between}
 use Rattle.tcg_calls.proofs.tcg_names.Numbers.{of_numbers-name, of_ranges-name, of_numbers-object, of_ranges-object, before_all}
 
@@ -16,7 +16,7 @@ pub object_in-append : (xs ys : List Named) (name : List ℕ) → object_in (xs 
 object_in-append [] ys name = refl
 object_in-append (x ∷ xs) ys name = grind (arith, object_in-append xs ys name)
 
--- authorities, their PINs, and the ACEs of Users' PINs
+-- authorities, their PINs, and the ACEs of Users' PINs and names
 pub admins : (u : Uid) → name_in (of_numbers admin_uid (codes "Admin") [] ADMINS) u ≡ option_map (number_between (codes "Admin") []) (admin_number u)
 admins u = of_numbers-name admin_base admin_uid (codes "Admin") [] ADMINS (λ n. refl) u
 
@@ -31,6 +31,9 @@ user_pins u = of_numbers-name user_pin_base user_pin_uid (codes "C_PIN_User") []
 
 pub user_aces : (u : Uid) → name_in (of_numbers ace_c_pin_user_set_pin (codes "ACE_C_PIN_User") (codes "_Set_PIN") USERS) u ≡ option_map (number_between (codes "ACE_C_PIN_User") (codes "_Set_PIN")) (user_ace_number u)
 user_aces u = of_numbers-name user_ace_base ace_c_pin_user_set_pin (codes "ACE_C_PIN_User") (codes "_Set_PIN") USERS (λ n. refl) u
+
+pub user_name_aces : (u : Uid) → name_in (of_numbers ace_user_set_common_name (codes "ACE_User") (codes "_Set_CommonName") USERS) u ≡ option_map (number_between (codes "ACE_User") (codes "_Set_CommonName")) (user_common_name_ace_number u)
+user_name_aces u = of_numbers-name user_common_name_ace_base ace_user_set_common_name (codes "ACE_User") (codes "_Set_CommonName") USERS (λ n. refl) u
 
 -- ranges, their keys, and the ACEs of both
 pub ranges : (u : Uid) → name_in (of_ranges range_uid (codes "Locking_") []) u ≡ option_map (range_between (codes "Locking_") []) (range_number u)
@@ -51,6 +54,6 @@ read_locked_aces u = of_ranges-name read_locked_ace_base ace_range_set_read_lock
 pub write_locked_aces : (u : Uid) → name_in (of_ranges ace_range_set_write_locked (codes "ACE_Locking_") (codes "_Set_WrLocked")) u ≡ option_map (range_between (codes "ACE_Locking_") (codes "_Set_WrLocked")) (write_locked_ace_number u)
 write_locked_aces u = of_ranges-name write_locked_ace_base ace_range_set_write_locked (codes "ACE_Locking_") (codes "_Set_WrLocked") (λ n. refl) u (before_all write_locked_ace_base (ace_range_set_write_locked 0).0 u (omega arith))
 
-pub ruleset names = (name_in-append, admins, users, admin_pins, user_pins, user_aces, ranges, keys, gen_key_aces, range_get_aces, read_locked_aces, write_locked_aces)
+pub ruleset names = (name_in-append, admins, users, admin_pins, user_pins, user_aces, user_name_aces, ranges, keys, gen_key_aces, range_get_aces, read_locked_aces, write_locked_aces)
 
 pub ruleset objects = (object_in-append, of_numbers-object, of_ranges-object)

@@ -4,8 +4,8 @@ ghost use Rattle.std.specs.Prelude.{◌≡◌, ◌==◌, ◌<◌, ◌^◌, [], �
 ghost use Rattle.std.specs.Int.{w64, from_be_bytes};
 ghost use Rattle.tcg_tokens.specs.Tree.{tree};
 ghost use Rattle.tcg_calls.specs.Named.{options as options_of, pair_of};
-ghost use Rattle.tcg_calls.specs.Parameters.{start_row_parameter, end_row_parameter, start_column_parameter, end_column_parameter};
-ghost use Rattle.tcg_calls.specs.Asks.{uid_of as uid_of_octets, is_mbr_table as is_mbr_table_of, is_datastore as is_datastore_of, is_byte_table as is_byte_table_of, cellblock, columns_asked_in, rows_in, cells_in, bytes_in, proof_in, attempt_in, without_arguments as without_arguments_of, get_of, set_of, revert_sp_in, field_ask_of, other_ask_of, ask_of as ask_by};
+ghost use Rattle.tcg_calls.specs.Parameters.{start_row_parameter, end_row_parameter, start_column_parameter, end_column_parameter, next_where_parameter, next_count_parameter};
+ghost use Rattle.tcg_calls.specs.Asks.{uid_of as uid_of_octets, uid_by, uid_in as uid_of_tree, is_mbr_table as is_mbr_table_of, is_datastore as is_datastore_of, is_byte_table as is_byte_table_of, cellblock, columns_asked_in, rows_in, cells_in, bytes_in, proof_in, attempt_in, without_arguments as without_arguments_of, get_of, set_of, revert_sp_in, row_if_any as row_if_any_in, next_of, get_acl_of, field_ask_of, opal_ask_of, other_ask_of, ask_of as ask_by};
 
 use crate::call_shapes::named::{
     Assignments, Pair, bytes_or_empty, list_in, number_if_any, number_or, read_assignments,
@@ -52,19 +52,31 @@ impl<'a> Octets<'a> {
 #[derive(Drop)]
 pub enum Ask<'a> {
     /// Get: the columns from the first to the last.
-    GetCells { first: u64, last: u64 },
+    GetCells {
+        first: u64,
+        last: u64,
+    },
 
     /// Get of a byte table: the rows from the first to the last, or to the end of the table.
-    GetBytes { first: u64, last: Option<u64> },
+    GetBytes {
+        first: u64,
+        last: Option<u64>,
+    },
 
     /// Set: values for columns.
     SetCells(Assignments<'a>),
 
     /// Set of a byte table: bytes from a row on.
-    SetBytes { at: u64, bytes: Octets<'a> },
+    SetBytes {
+        at: u64,
+        bytes: Octets<'a>,
+    },
 
     /// Authenticate: an authority, and what proves it.
-    Authenticate { authority: Uid, proof: Octets<'a> },
+    Authenticate {
+        authority: Uid,
+        proof: Octets<'a>,
+    },
 
     Activate,
 
@@ -74,7 +86,21 @@ pub enum Ask<'a> {
     GenKey,
 
     /// RevertSP: whether the data of the global range are kept.
-    RevertSp { keep: bool },
+    RevertSp {
+        keep: bool,
+    },
+
+    /// Next: the row behind which it goes on, where one is named, and how many rows it gives at most.
+    Next {
+        after: Option<Uid>,
+        count: Option<u64>,
+    },
+
+    /// GetACL: the object and the method whose line of the access list is asked for.
+    GetAcl {
+        object: Uid,
+        method: Uid,
+    },
 
     /// A method that the profile does not know.
     Other,
@@ -186,12 +212,22 @@ fn bytes_asked<'a>(args: &Assignments<'a>) -> Option<Ask<'a>>
     }
 }
 
-/// The authority that bytes name.
+/// The object that bytes name, where they are eight.
 pub(crate) fn authority_of(octets: &[u8]) -> Option<Uid>
-    ensures { result ≡ (if length octets.now == 8 then Some (uid_of_octets octets.now) else None) }
+    ensures { result ≡ uid_by octets.now }
 {
     match octets.split_first_chunk::<8>() {
         Some((octets, [])) => Some(uid_of(octets)),
+        _ => None,
+    }
+}
+
+/// The object that a value names.
+pub fn uid_in(value: &Value) -> Option<Uid>
+    ensures { result ≡ uid_of_tree (tree value.now) }
+{
+    match value {
+        Value::Bytes(octets) => authority_of(octets.as_slice()),
         _ => None,
     }
 }
@@ -242,6 +278,38 @@ fn revert_sp_asked<'a>(alloc: Global, args: &'a [Value]) -> Result<Option<Ask<'a
     }
 }
 
+/// The row that an argument names, where there is one.
+fn row_if_any(value: Option<&Value>) -> Option<Option<Uid>>
+    ensures { result ≡ row_if_any_in (option_map (λ v. tree v.now) value.entry) }
+{
+    match value {
+        None => Some(None),
+        Some(row) => Some(Some(uid_in(row)?)),
+    }
+}
+
+/// Next.
+fn next_asked<'a>(args: &'a [Value]) -> Option<Ask<'a>>
+    ensures { result ≡ next_of (map tree args.now) }
+{
+    let named = read_pair(parameter::NEXT_WHERE, parameter::NEXT_COUNT, args)?;
+    let after = row_if_any(named.first)?;
+    let count = number_if_any(named.last)?;
+    Some(Ask::Next { after, count })
+}
+
+/// GetACL.
+fn get_acl_asked<'a>(args: &'a [Value]) -> Option<Ask<'a>>
+    ensures { result ≡ get_acl_of (map tree args.now) }
+{
+    let [object, method] = args else {
+        return None;
+    };
+    let object = uid_in(object)?;
+    let method = uid_in(method)?;
+    Some(Ask::GetAcl { object, method })
+}
+
 /// A method that the field profile has besides; any other takes any arguments.
 fn field_asked<'a>(
     alloc: Global,
@@ -257,6 +325,21 @@ fn field_asked<'a>(
     }
 }
 
+/// A method that the opal profile has besides.
+fn opal_asked<'a>(
+    alloc: Global,
+    method: Uid,
+    args: &'a [Value],
+) -> Result<Option<Ask<'a>>, AllocError>
+    ensures { IfOk result (λ ask. ask ≡ opal_ask_of method (map tree args.now)) }
+{
+    match method {
+        Uid::NEXT => Ok(next_asked(args)),
+        Uid::GET_ACL => Ok(get_acl_asked(args)),
+        _ => field_asked(alloc, method, args),
+    }
+}
+
 /// A method that is none of the five: the base profile knows no other.
 fn other_asked<'a>(
     alloc: Global,
@@ -268,7 +351,8 @@ fn other_asked<'a>(
 {
     match profile {
         Profile::Base => Ok(Some(Ask::Other)),
-        Profile::Field | Profile::Opal => field_asked(alloc, method, args),
+        Profile::Field => field_asked(alloc, method, args),
+        Profile::Opal => opal_asked(alloc, method, args),
     }
 }
 

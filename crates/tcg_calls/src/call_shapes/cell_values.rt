@@ -2,17 +2,18 @@
 
 ghost use Rattle.std.specs.Prelude.{◌≡◌, ◌==◌, ◌<◌, ◌≤◌, ◌^◌, ◌++◌, [], ◌∷◌, List, map, length, IfOk, OnOk, IsTrue, option_map, ℕ, None, Some, if◌then◌else◌};
 ghost use Rattle.std.specs.Str.{bytes_eq};
-ghost use Rattle.tcg_tokens.specs.Tree.{tree, trees, bytes, number, list, named};
+ghost use Rattle.tcg_tokens.specs.Tree.{tree, trees, trees_of, bytes, number, list, named};
 ghost use Rattle.sp_cells.specs.Limits.{most_elements, cryptographic_erase};
-ghost use Rattle.tcg_calls.specs.CellValues.{uid_tree, element_tree, numbers_tree, cell_tree, each_of, number_in as number_of_tree, uid_in as uid_of_tree, operator_in as operator_of_tree, element_in as element_of_tree, bytes_in as bytes_of_tree, numbers_in as numbers_of_trees, elements_in as elements_of_trees, expression_of, resets_of, columns_written as columns_of_numbers, name_cell, secret_of, flag_of, mechanism_of, cell_in};
+ghost use Rattle.tcg_calls.specs.CellValues.{uid_tree, element_tree, numbers_tree, cell_tree, each_of, number_in as number_of_tree, operator_in as operator_of_tree, element_in as element_of_tree, bytes_in as bytes_of_tree, numbers_in as numbers_of_trees, elements_in as elements_of_trees, expression_of, resets_of, columns_written as columns_of_numbers, name_cell, bytes_at_most, with_power_cycle, one_name_of, flag_of, mechanism_of, cell_in};
 ghost use Rattle.tcg_calls.specs.Named.{list_in as list_of_tree};
 ghost use Rattle.sp_cells.specs.Names.{col};
-ghost use Rattle.sp_cells.specs.declared.cells.Cell.TheVariants as cells;
 
-use crate::call_shapes::ask::authority_of;
+use crate::call_shapes::ask::uid_in;
 use crate::call_shapes::named::list_in;
 use arrayvec::ArrayVec;
-use sp_cells::limits::{CRYPTOGRAPHIC_ERASE, MOST_ELEMENTS, MOST_PIN_BYTES};
+use sp_cells::limits::{
+    CRYPTOGRAPHIC_ERASE, MOST_COMMON_NAME_BYTES, MOST_ELEMENTS, MOST_PIN_BYTES, MOST_SHORT_ELEMENTS,
+};
 use sp_cells::values::ColumnType;
 use sp_cells::{Bytes, Cell, Column, Columns, Element, Expr, ResetTypes, Uid};
 use std::alloc::{AllocError, Global};
@@ -110,6 +111,15 @@ fn element_values(alloc: Global, elements: &[Element]) -> Result<Vec<Value>, All
     Ok(values)
 }
 
+/// A list of one name.
+fn one_name_value(alloc: Global, name: &[u8]) -> Result<Value, AllocError>
+    ensures { IfOk result (λ v. tree v ≡ list (trees_of (bytes name.now ∷ []))) }
+{
+    let mut values = Vec::new(alloc);
+    values.push(bytes_value(alloc, name)?)?;
+    Ok(list_value(values))
+}
+
 /// A cell as Get writes it.
 pub fn value_of(alloc: Global, cell: &Cell) -> Result<Value, AllocError>
     ensures { IfOk result (λ v. tree v ≡ cell_tree cell.now) }
@@ -121,6 +131,7 @@ pub fn value_of(alloc: Global, cell: &Cell) -> Result<Value, AllocError>
         Cell::Numbers(resets) => list_value(number_values(alloc, resets.numbers().as_slice())?),
         Cell::Expr(expr) => list_value(element_values(alloc, expr.as_slice())?),
         Cell::Columns(columns) => list_value(column_values(alloc, columns.as_slice())?),
+        Cell::OneName(name) => one_name_value(alloc, name.as_slice())?,
     })
 }
 
@@ -140,16 +151,6 @@ fn bytes_in(value: &Value) -> Option<&[u8]>
 {
     match value {
         Value::Bytes(octets) => Some(octets.as_slice()),
-        _ => None,
-    }
-}
-
-/// The object that a value names.
-pub fn uid_in(value: &Value) -> Option<Uid>
-    ensures { result ≡ uid_of_tree (tree value.now) }
-{
-    match value {
-        Value::Bytes(octets) => authority_of(octets.as_slice()),
         _ => None,
     }
 }
@@ -211,16 +212,17 @@ fn elements_in(values: &[Value]) -> Option<ArrayVec<Element, MOST_ELEMENTS>>
     Some(elements)
 }
 
-/// The expression that a value writes.
+/// The expression that a value writes, of so many elements at most.
 #[tactic(auto, using(crate::proofs::call_shapes::CellLemmas::too_long))]
-fn expression_in(alloc: Global, value: &Value) -> Result<Option<Cell>, AllocError>
+fn expression_in(alloc: Global, most: usize, value: &Value) -> Result<Option<Cell>, AllocError>
+    requires { most ≤ most_elements }
     ensures { IfOk result (λ c.
-        c ≡ expression_of (elements_of_trees (list_of_tree (tree value.now)))) }
+        c ≡ expression_of most (elements_of_trees (list_of_tree (tree value.now)))) }
 {
     let Some(values) = list_in(value) else {
         return Ok(None);
     };
-    if values.len() > MOST_ELEMENTS {
+    if values.len() > most {
         return Ok(None);
     }
     let Some(elements) = elements_in(values) else {
@@ -243,6 +245,17 @@ fn resets_in(alloc: Global, value: &Value) -> Result<Option<Cell>, AllocError>
     match ResetTypes::from_numbers(&numbers) {
         Some(resets) => Ok(Some(Cell::Numbers(resets))),
         None => Ok(None),
+    }
+}
+
+/// The set of resets that a value writes, where it has the power cycle.
+fn power_cycle_resets_in(alloc: Global, value: &Value) -> Result<Option<Cell>, AllocError>
+    ensures { IfOk result (λ c.
+        c ≡ with_power_cycle (resets_of (numbers_of_trees (list_of_tree (tree value.now))))) }
+{
+    match resets_in(alloc, value)? {
+        Some(Cell::Numbers(resets)) if resets.power_cycle => Ok(Some(Cell::Numbers(resets))),
+        _ => Ok(None),
     }
 }
 
@@ -272,13 +285,13 @@ fn columns_in(alloc: Global, value: &Value) -> Result<Option<Cell>, AllocError>
     Ok(Some(Cell::Columns(columns)))
 }
 
-/// Bytes as a cell.
-fn bytes_cell(alloc: Global, octets: &[u8]) -> Result<Cell, AllocError>
-    ensures { IfOk result (λ c. c ≡ cells.Bytes octets.now) }
+/// Bytes as those of a cell.
+fn copied(alloc: Global, octets: &[u8]) -> Result<Bytes, AllocError>
+    ensures { IfOk result (λ b. b ≡ octets.now) }
 {
     let mut items = Vec::new(alloc);
     items.extend_from_slice(octets)?;
-    Ok(Cell::Bytes(Bytes::from_vec(items)))
+    Ok(Bytes::from_vec(items))
 }
 
 /// Bytes of any length that a value is.
@@ -288,22 +301,33 @@ fn name_in(alloc: Global, value: &Value) -> Result<Option<Cell>, AllocError>
     let Some(octets) = bytes_in(value) else {
         return Ok(None);
     };
-    let cell = bytes_cell(alloc, octets)?;
-    Ok(Some(cell))
+    let bytes = copied(alloc, octets)?;
+    Ok(Some(Cell::Bytes(bytes)))
 }
 
-/// Bytes that a value is, where a PIN can have them.
-fn secret_in(alloc: Global, value: &Value) -> Result<Option<Cell>, AllocError>
-    ensures { IfOk result (λ c. c ≡ secret_of (bytes_of_tree (tree value.now))) }
+/// So many bytes at most that a value is.
+fn bytes_at_most_in(alloc: Global, most: usize, value: &Value) -> Result<Option<Cell>, AllocError>
+    ensures { IfOk result (λ c. c ≡ bytes_at_most most (bytes_of_tree (tree value.now))) }
 {
     let Some(octets) = bytes_in(value) else {
         return Ok(None);
     };
-    if octets.len() > MOST_PIN_BYTES {
+    if octets.len() > most {
         return Ok(None);
     }
-    let cell = bytes_cell(alloc, octets)?;
-    Ok(Some(cell))
+    let bytes = copied(alloc, octets)?;
+    Ok(Some(Cell::Bytes(bytes)))
+}
+
+/// The one name of the list that a value is.
+fn one_name_in(alloc: Global, value: &Value) -> Result<Option<Cell>, AllocError>
+    ensures { IfOk result (λ c. c ≡ one_name_of (list_of_tree (tree value.now))) }
+{
+    let Some([Value::Bytes(name)]) = list_in(value) else {
+        return Ok(None);
+    };
+    let name = copied(alloc, name.as_slice())?;
+    Ok(Some(Cell::OneName(name)))
 }
 
 /// The flag that a value is.
@@ -332,13 +356,17 @@ pub fn cell_of(alloc: Global, kind: ColumnType, value: &Value) -> Result<Option<
 {
     Ok(match kind {
         ColumnType::Name => name_in(alloc, value)?,
-        ColumnType::Secret => secret_in(alloc, value)?,
+        ColumnType::CommonName => bytes_at_most_in(alloc, MOST_COMMON_NAME_BYTES, value)?,
+        ColumnType::Secret => bytes_at_most_in(alloc, MOST_PIN_BYTES, value)?,
         ColumnType::Object => uid_in(value).map(Cell::Uid),
         ColumnType::Number => number_in(value).map(Cell::Number),
         ColumnType::Flag => flag_in(value),
         ColumnType::Mechanism => mechanism_in(value),
         ColumnType::Resets => resets_in(alloc, value)?,
-        ColumnType::Expression => expression_in(alloc, value)?,
+        ColumnType::PowerCycleResets => power_cycle_resets_in(alloc, value)?,
+        ColumnType::Expression => expression_in(alloc, MOST_SHORT_ELEMENTS, value)?,
+        ColumnType::LongExpression => expression_in(alloc, MOST_ELEMENTS, value)?,
         ColumnType::Columns => columns_in(alloc, value)?,
+        ColumnType::OneName => one_name_in(alloc, value)?,
     })
 }

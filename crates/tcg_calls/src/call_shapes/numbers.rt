@@ -2,7 +2,7 @@
 
 ghost use Rattle.std.specs.Prelude.{◌≡◌};
 ghost use Rattle.tcg_calls.specs.Statuses.{success, not_authorized, sp_busy, no_sessions_available, invalid_parameter, transaction_failure, response_overflow, authority_locked_out, fail};
-ghost use Rattle.tcg_calls.specs.Parameters.{start_row_parameter, end_row_parameter, start_column_parameter, end_column_parameter, where_parameter, values_parameter, proof_parameter, host_challenge_parameter, host_signing_authority_parameter, keep_global_range_key_parameter, host_properties_parameter};
+ghost use Rattle.tcg_calls.specs.Parameters.{start_row_parameter, end_row_parameter, start_column_parameter, end_column_parameter, where_parameter, values_parameter, next_where_parameter, next_count_parameter, proof_parameter, host_challenge_parameter, host_signing_authority_parameter, keep_global_range_key_parameter, host_properties_parameter};
 ghost use Rattle.tcg_calls.specs.declared.call_shapes.status.TheConstants as statuses;
 ghost use Rattle.tcg_calls.specs.declared.call_shapes.parameter.TheConstants as parameters;
 
@@ -30,6 +30,8 @@ pub fn laws_of_numbers()
         × (parameters.END_COLUMN ≡ end_column_parameter) × (end_column_parameter ≡ 4) }
     ensures set { (parameters.WHERE ≡ where_parameter) × (where_parameter ≡ 0)
         × (parameters.VALUES ≡ values_parameter) × (values_parameter ≡ 1) }
+    ensures next { (parameters.NEXT_WHERE ≡ next_where_parameter) × (next_where_parameter ≡ 0)
+        × (parameters.NEXT_COUNT ≡ next_count_parameter) × (next_count_parameter ≡ 1) }
     ensures authenticate { (parameters.PROOF ≡ proof_parameter) × (proof_parameter ≡ 0) }
     ensures start_session { (parameters.HOST_CHALLENGE ≡ host_challenge_parameter)
         × (host_challenge_parameter ≡ 0)

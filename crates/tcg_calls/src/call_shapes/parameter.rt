@@ -19,6 +19,12 @@ pub const WHERE: u64 = 0;
 /// Set: what is set.
 pub const VALUES: u64 = 1;
 
+/// Next: the row behind which it goes on (Core 2.01, section 5.3.3.8).
+pub const NEXT_WHERE: u64 = 0;
+
+/// Next: how many rows it gives at most.
+pub const NEXT_COUNT: u64 = 1;
+
 /// Authenticate: what proves the authority.
 pub const PROOF: u64 = 0;
 

@@ -20,6 +20,10 @@ pub(crate) enum Place {
     Set(u64),
     /// Where a name of these stands.
     SetName,
+    /// Among the arguments of a Next.
+    Next,
+    /// Where a name of these stands.
+    NextName,
     /// Among the cells that are set in a row of this table.
     Cells(u64),
     /// Where a column of this table stands.
@@ -35,6 +39,8 @@ impl Place {
             Place::Get(object.table())
         } else if method == Uid::SET {
             Place::Set(object.table())
+        } else if method == Uid::NEXT {
+            Place::Next
         } else {
             Place::Plain
         }
@@ -47,6 +53,7 @@ impl Place {
         match self {
             Place::Get(_) => Place::GetName,
             Place::Set(_) => Place::SetName,
+            Place::Next => Place::NextName,
             Place::Cells(table) => Place::Column(table),
             _ => Place::Plain,
         }
@@ -77,6 +84,8 @@ impl Place {
             (Place::GetName, parameter::END_COLUMN) => Some("endColumn"),
             (Place::SetName, parameter::WHERE) => Some("Where"),
             (Place::SetName, parameter::VALUES) => Some("Values"),
+            (Place::NextName, parameter::NEXT_WHERE) => Some("Where"),
+            (Place::NextName, parameter::NEXT_COUNT) => Some("Count"),
             (Place::Column(table), _) => column_name(table, Column(number)),
             _ => None,
         }

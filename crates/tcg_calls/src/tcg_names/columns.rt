@@ -1,7 +1,7 @@
 //! The columns of the tables, and their names.
 
 ghost use Rattle.std.specs.Prelude.{◌≡◌, MatchOption, Some, None};
-ghost use Rattle.tcg_calls.specs.Columns.{column_pairs, column_name_in, column_in, names_of_table, column_name, column_by_name, sp_names, tper_info_names, c_pin_names, authority_names, ace_names, locking_names, mbr_control_names, locking_info_names, table_names, key_names, data_removal_names};
+ghost use Rattle.tcg_calls.specs.Columns.{column_pairs, column_name_in, column_in, names_of_table, column_name, column_by_name, sp_info_names, sp_templates_names, method_id_names, template_names, secret_protect_names, sp_names, tper_info_names, c_pin_names, authority_names, ace_names, locking_names, mbr_control_names, locking_info_names, table_names, key_names, data_removal_names};
 
 use sp_cells::Column;
 use sp_cells::names::tables;
@@ -9,14 +9,63 @@ use sp_cells::names::tables;
 /// A column, and its name.
 type NamedColumn = (Column, &'static str);
 
-const SP: [NamedColumn; 3] = [
+const SP_INFO: [NamedColumn; 7] = [
     (Column::UID, "UID"),
-    (Column::NAME, "Name"),
-    (Column::LIFE_CYCLE_STATE, "LifeCycleState"),
+    (Column::SP_ID, "SPID"),
+    (Column::SP_NAME, "Name"),
+    (Column::SIZE, "Size"),
+    (Column::SIZE_IN_USE, "SizeInUse"),
+    (Column::SP_SESSION_TIMEOUT, "SPSessionTimeout"),
+    (Column::SP_ENABLED, "Enabled"),
 ];
 
-const TPER_INFO: [NamedColumn; 2] = [
+const SP_TEMPLATES: [NamedColumn; 4] = [
     (Column::UID, "UID"),
+    (Column::TEMPLATE_ID, "TemplateID"),
+    (Column::TEMPLATE_NAME, "Name"),
+    (Column::TEMPLATE_VERSION, "Version"),
+];
+
+const METHOD_ID: [NamedColumn; 3] = [
+    (Column::UID, "UID"),
+    (Column::NAME, "Name"),
+    (Column::COMMON_NAME, "CommonName"),
+];
+
+const TEMPLATE: [NamedColumn; 5] = [
+    (Column::UID, "UID"),
+    (Column::NAME, "Name"),
+    (Column::REVISION_NUMBER, "RevisionNumber"),
+    (Column::INSTANCES, "Instances"),
+    (Column::MAX_INSTANCES, "MaxInstances"),
+];
+
+const SECRET_PROTECT: [NamedColumn; 4] = [
+    (Column::UID, "UID"),
+    (Column::PROTECTED_TABLE, "Table"),
+    (Column::COLUMN_NUMBER, "ColumnNumber"),
+    (Column::PROTECT_MECHANISMS, "ProtectMechanisms"),
+];
+
+const SP: [NamedColumn; 7] = [
+    (Column::UID, "UID"),
+    (Column::NAME, "Name"),
+    (Column::ORG, "ORG"),
+    (Column::EFFECTIVE_AUTH, "EffectiveAuth"),
+    (Column::SP_BYTES, "Bytes"),
+    (Column::LIFE_CYCLE_STATE, "LifeCycleState"),
+    (Column::FROZEN, "Frozen"),
+];
+
+const TPER_INFO: [NamedColumn; 9] = [
+    (Column::UID, "UID"),
+    (Column::TPER_BYTES, "Bytes"),
+    (Column::GUDID, "GUDID"),
+    (Column::GENERATION, "Generation"),
+    (Column::FIRMWARE_VERSION, "FirmwareVersion"),
+    (Column::PROTOCOL_VERSION, "ProtocolVersion"),
+    (Column::SPACE_FOR_ISSUANCE, "SpaceForIssuance"),
+    (Column::SSC, "SSC"),
     (Column::PROGRAMMATIC_RESET_ENABLE, "ProgrammaticResetEnable"),
 ];
 
@@ -31,15 +80,24 @@ const C_PIN: [NamedColumn; 8] = [
     (Column::PERSISTENCE, "Persistence"),
 ];
 
-const AUTHORITY: [NamedColumn; 8] = [
+const AUTHORITY: [NamedColumn; 17] = [
     (Column::UID, "UID"),
     (Column::NAME, "Name"),
     (Column::COMMON_NAME, "CommonName"),
     (Column::IS_CLASS, "IsClass"),
     (Column::CLASS, "Class"),
     (Column::ENABLED, "Enabled"),
+    (Column::SECURE, "Secure"),
+    (Column::HASH_AND_SIGN, "HashAndSign"),
+    (Column::PRESENT_CERTIFICATE, "PresentCertificate"),
     (Column::OPERATION, "Operation"),
     (Column::CREDENTIAL, "Credential"),
+    (Column::RESPONSE_SIGN, "ResponseSign"),
+    (Column::RESPONSE_EXCH, "ResponseExch"),
+    (Column::LIMIT, "Limit"),
+    (Column::USES, "Uses"),
+    (Column::LOG, "Log"),
+    (Column::LOG_TO, "LogTo"),
 ];
 
 const ACE: [NamedColumn; 5] = [
@@ -101,10 +159,11 @@ const TABLE: [NamedColumn; 7] = [
     ),
 ];
 
-const K_AES_256: [NamedColumn; 3] = [
+const K_AES_256: [NamedColumn; 4] = [
     (Column::UID, "UID"),
     (Column::NAME, "Name"),
     (Column::COMMON_NAME, "CommonName"),
+    (Column::MODE, "Mode"),
 ];
 
 const DATA_REMOVAL: [NamedColumn; 2] = [
@@ -116,7 +175,7 @@ const DATA_REMOVAL: [NamedColumn; 2] = [
 ];
 
 /// The columns of a table, by the upper four bytes of its rows' names.
-#[tactic(auto, unfolding(crate::specs::Columns::sp_names, crate::specs::Columns::tper_info_names, crate::specs::Columns::c_pin_names, crate::specs::Columns::authority_names, crate::specs::Columns::ace_names, crate::specs::Columns::locking_names, crate::specs::Columns::mbr_control_names, crate::specs::Columns::locking_info_names, crate::specs::Columns::table_names, crate::specs::Columns::key_names, crate::specs::Columns::data_removal_names))]
+#[tactic(auto, unfolding(crate::specs::Columns::sp_info_names, crate::specs::Columns::sp_templates_names, crate::specs::Columns::method_id_names, crate::specs::Columns::template_names, crate::specs::Columns::secret_protect_names, crate::specs::Columns::sp_names, crate::specs::Columns::tper_info_names, crate::specs::Columns::c_pin_names, crate::specs::Columns::authority_names, crate::specs::Columns::ace_names, crate::specs::Columns::locking_names, crate::specs::Columns::mbr_control_names, crate::specs::Columns::locking_info_names, crate::specs::Columns::table_names, crate::specs::Columns::key_names, crate::specs::Columns::data_removal_names))]
 fn names_of_table(table: u64) -> &'static [NamedColumn]
     ensures { column_pairs result.now ≡ names_of_table table }
 {
@@ -132,6 +191,11 @@ fn names_of_table(table: u64) -> &'static [NamedColumn]
         tables::TABLE => &TABLE,
         tables::K_AES_256 => &K_AES_256,
         tables::DATA_REMOVAL => &DATA_REMOVAL,
+        tables::SP_INFO => &SP_INFO,
+        tables::SP_TEMPLATES => &SP_TEMPLATES,
+        tables::METHOD_ID => &METHOD_ID,
+        tables::TEMPLATE => &TEMPLATE,
+        tables::SECRET_PROTECT => &SECRET_PROTECT,
         _ => &[],
     }
 }

@@ -18,7 +18,7 @@ pub(crate) struct Between {
     pub(crate) behind: &'static str,
 }
 
-/// The name of a member of a family of authorities, of their PINs and of the ACEs of these.
+/// The name of a member of a family of authorities, of their PINs and of the ACEs of both.
 #[tactic(auto, using(crate::proofs::tcg_names::Joins::names))]
 pub(crate) fn authority_between(object: Uid) -> Option<Between>
     ensures { MatchOption result (name_in authority_families object ≡ None)
@@ -54,6 +54,12 @@ pub(crate) fn authority_between(object: Uid) -> Option<Between>
             before: "ACE_C_PIN_User",
             number,
             behind: "_Set_PIN",
+        })
+    } else if let Some(number) = object.user_common_name_ace_number() {
+        Some(Between {
+            before: "ACE_User",
+            number,
+            behind: "_Set_CommonName",
         })
     } else {
         None
@@ -209,8 +215,8 @@ pub(crate) struct Family {
     pub(crate) numbers: Numbers,
 }
 
-/// The families of authorities, of their PINs and of the ACEs of these, and those of the ranges.
-static FAMILIES: [Family; 11] = [
+/// The families of authorities, of their PINs and of the ACEs of both, and those of the ranges.
+static FAMILIES: [Family; 12] = [
     Family {
         table: tables::AUTHORITY as u16,
         number: 0x1_0000,
@@ -249,6 +255,14 @@ static FAMILIES: [Family; 11] = [
         zero: None,
         before: "ACE_C_PIN_User",
         behind: "_Set_PIN",
+        numbers: Numbers::UpTo(USERS),
+    },
+    Family {
+        table: tables::ACE as u16,
+        number: 0x4_4000,
+        zero: None,
+        before: "ACE_User",
+        behind: "_Set_CommonName",
         numbers: Numbers::UpTo(USERS),
     },
     Family {
@@ -301,7 +315,7 @@ static FAMILIES: [Family; 11] = [
     },
 ];
 
-/// The families of authorities, of their PINs and of the ACEs of these, and those of the ranges.
+/// The families of authorities, of their PINs and of the ACEs of both, and those of the ranges.
 fn families() -> &'static [Family]
     ensures { flat_map names_of result.now ≡ authority_families ++ range_families }
 {

@@ -5,7 +5,8 @@ ghost use Rattle.tcg_calls.specs.Objects.{name_in, object_in, singles, named_obj
 
 use crate::tcg_names::families::{authority_between, member_named, range_between};
 use crate::tcg_names::singles::{
-    admin_aces, authorities, locking_aces, methods, name_in, object_in, objects,
+    admin_aces, authorities, locking_aces, methods, name_in, object_in, object_tables, objects,
+    table_rows,
 };
 use sp_cells::Uid;
 use std::alloc::{AllocError, Global};
@@ -17,6 +18,12 @@ fn single_name(object: Uid) -> Option<&'static str>
         (λ name. name_in singles object ≡ Some name.now) }
 {
     if let Some(name) = name_in(objects(), object) {
+        return Some(name);
+    }
+    if let Some(name) = name_in(object_tables(), object) {
+        return Some(name);
+    }
+    if let Some(name) = name_in(table_rows(), object) {
         return Some(name);
     }
     if let Some(name) = name_in(authorities(), object) {
@@ -37,6 +44,12 @@ fn single_named(name: &str) -> Option<Uid>
     ensures { result ≡ object_in singles name.now }
 {
     if let Some(object) = object_in(objects(), name) {
+        return Some(object);
+    }
+    if let Some(object) = object_in(object_tables(), name) {
+        return Some(object);
+    }
+    if let Some(object) = object_in(table_rows(), name) {
         return Some(object);
     }
     if let Some(object) = object_in(authorities(), name) {

@@ -1,16 +1,17 @@
 //! Objects that have a name of their own.
 
 ghost use Rattle.std.specs.Prelude.{◌≡◌, ◌++◌, MatchOption, Some, None};
-ghost use Rattle.tcg_calls.specs.Objects.{name_in, object_in, object_singles, authority_singles, admin_ace_singles, locking_ace_singles, method_singles};
+ghost use Rattle.tcg_calls.specs.Objects.{name_in, object_in, object_singles, table_singles, table_row_singles, authority_singles, admin_ace_singles, locking_ace_singles, method_singles};
 ghost use Rattle.tcg_calls.specs.Tables.{pairs};
 
 use sp_cells::Uid;
+use sp_cells::names::tables;
 
 /// An object, and its name.
 pub(crate) type Named = (Uid, &'static str);
 
 /// The objects of tables that have one row or few.
-const OBJECTS: [Named; 11] = [
+const OBJECTS: [Named; 18] = [
     (Uid::THIS_SP, "ThisSP"),
     (Uid::ADMIN_SP, "AdminSP"),
     (Uid::LOCKING_SP, "LockingSP"),
@@ -22,10 +23,66 @@ const OBJECTS: [Named; 11] = [
     (Uid::DATASTORE_TABLE, "DataStore"),
     (Uid::DATASTORE_TABLE_ROW, "Table_DataStore"),
     (Uid::DATA_REMOVAL, "DataRemovalMechanism"),
+    (Uid::SP_INFO, "SPInfo"),
+    (Uid::SP_TEMPLATE_BASE, "SPTemplates_Base"),
+    (Uid::SP_TEMPLATE_OWN, "SPTemplates_Own"),
+    (Uid::TEMPLATE_BASE, "Template_Base"),
+    (Uid::TEMPLATE_ADMIN, "Template_Admin"),
+    (Uid::TEMPLATE_LOCKING, "Template_Locking"),
+    (Uid::SECRET_PROTECT_KEY, "SecretProtect_K_AES_256_Key"),
+];
+
+/// The names of a table's rows are as many; the table as an object has the first, and so has the Table table's number.
+const OF_TABLE: u64 = 0x1_0000_0000;
+
+/// The tables that have more than one row.
+const TABLES: [Named; 12] = [
+    (Uid(tables::TABLE * OF_TABLE), "Table"),
+    (Uid(tables::SP_TEMPLATES * OF_TABLE), "SPTemplates"),
+    (Uid(tables::METHOD_ID * OF_TABLE), "MethodID"),
+    (Uid::ACCESS_CONTROL, "AccessControl"),
+    (Uid(tables::ACE * OF_TABLE), "ACE"),
+    (Uid(tables::AUTHORITY * OF_TABLE), "Authority"),
+    (Uid(tables::C_PIN * OF_TABLE), "C_PIN"),
+    (Uid(tables::SECRET_PROTECT * OF_TABLE), "SecretProtect"),
+    (Uid(tables::TEMPLATE * OF_TABLE), "Template"),
+    (Uid(tables::SP * OF_TABLE), "SP"),
+    (Uid(tables::LOCKING * OF_TABLE), "Locking"),
+    (Uid(tables::K_AES_256 * OF_TABLE), "K_AES_256"),
+];
+
+/// The rows of the Table table, but for those of the byte tables.
+const TABLE_ROWS: [Named; 17] = [
+    (Uid(OF_TABLE + tables::TABLE), "Table_Table"),
+    (Uid(OF_TABLE + tables::SP_INFO), "Table_SPInfo"),
+    (Uid(OF_TABLE + tables::SP_TEMPLATES), "Table_SPTemplates"),
+    (Uid(OF_TABLE + tables::METHOD_ID), "Table_MethodID"),
+    (
+        Uid(OF_TABLE + tables::ACCESS_CONTROL),
+        "Table_AccessControl",
+    ),
+    (Uid(OF_TABLE + tables::ACE), "Table_ACE"),
+    (Uid(OF_TABLE + tables::AUTHORITY), "Table_Authority"),
+    (Uid(OF_TABLE + tables::C_PIN), "Table_C_PIN"),
+    (
+        Uid(OF_TABLE + tables::SECRET_PROTECT),
+        "Table_SecretProtect",
+    ),
+    (Uid(OF_TABLE + tables::TPER_INFO), "Table_TPerInfo"),
+    (Uid(OF_TABLE + tables::TEMPLATE), "Table_Template"),
+    (Uid(OF_TABLE + tables::SP), "Table_SP"),
+    (Uid(OF_TABLE + tables::LOCKING_INFO), "Table_LockingInfo"),
+    (Uid(OF_TABLE + tables::LOCKING), "Table_Locking"),
+    (Uid(OF_TABLE + tables::MBR_CONTROL), "Table_MBRControl"),
+    (Uid(OF_TABLE + tables::K_AES_256), "Table_K_AES_256"),
+    (
+        Uid(OF_TABLE + tables::DATA_REMOVAL),
+        "Table_DataRemovalMechanism",
+    ),
 ];
 
 /// Authorities, and the rows of their PINs.
-const AUTHORITIES: [Named; 8] = [
+const AUTHORITIES: [Named; 11] = [
     (Uid::ANYBODY, "Anybody"),
     (Uid::SID, "SID"),
     (Uid::PSID, "PSID"),
@@ -34,10 +91,13 @@ const AUTHORITIES: [Named; 8] = [
     (Uid::C_PIN_SID, "C_PIN_SID"),
     (Uid::C_PIN_MSID, "C_PIN_MSID"),
     (Uid::C_PIN_PSID, "C_PIN_PSID"),
+    (Uid::MAKERS, "Makers"),
+    (Uid::ADMIN_SP_ADMIN, "AdminSP_Admin1"),
+    (Uid::C_PIN_ADMIN_SP_ADMIN, "C_PIN_AdminSP_Admin1"),
 ];
 
 /// The ACEs of the Admin SP, and those of both.
-const ADMIN_ACES: [Named; 10] = [
+const ADMIN_ACES: [Named; 11] = [
     (Uid::ACE_ANYBODY, "ACE_Anybody"),
     (Uid::ACE_ADMINS, "ACE_Admin"),
     (Uid::ACE_C_PIN_SID_GET_NOPIN, "ACE_C_PIN_SID_Get_NOPIN"),
@@ -54,10 +114,11 @@ const ADMIN_ACES: [Named; 10] = [
         Uid::ACE_DATA_REMOVAL_SET_ACTIVE,
         "ACE_DataRemovalMechanism_Set_Active",
     ),
+    (Uid::ACE_SET_ENABLED, "ACE_Set_Enabled"),
 ];
 
 /// The ACEs of the Locking SP.
-const LOCKING_ACES: [Named; 11] = [
+const LOCKING_ACES: [Named; 15] = [
     (
         Uid::ACE_ANYBODY_GET_COMMON_NAME,
         "ACE_Anybody_Get_CommonName",
@@ -87,10 +148,14 @@ const LOCKING_ACES: [Named; 11] = [
     ),
     (Uid::ACE_DATASTORE_GET_ALL, "ACE_DataStore_Get_All"),
     (Uid::ACE_DATASTORE_SET_ALL, "ACE_DataStore_Set_All"),
+    (Uid::ACE_ADMINS_SET_COMMON_NAME, "ACE_Admins_Set_CommonName"),
+    (Uid::ACE_ACE_GET_ALL, "ACE_ACE_Get_All"),
+    (Uid::ACE_AUTHORITY_GET_ALL, "ACE_Authority_Get_All"),
+    (Uid::ACE_KEY_MODE, "ACE_K_AES_Mode"),
 ];
 
 /// The session manager, and the methods.
-const METHODS: [Named; 11] = [
+const METHODS: [Named; 14] = [
     (Uid::SESSION_MANAGER, "SMUID"),
     (Uid::PROPERTIES, "Properties"),
     (Uid::START_SESSION, "StartSession"),
@@ -102,6 +167,9 @@ const METHODS: [Named; 11] = [
     (Uid::ACTIVATE, "Activate"),
     (Uid::GEN_KEY, "GenKey"),
     (Uid::REVERT_SP, "RevertSP"),
+    (Uid::NEXT, "Next"),
+    (Uid::GET_ACL, "GetACL"),
+    (Uid::RANDOM, "Random"),
 ];
 
 /// The name of an object in a table.
@@ -134,6 +202,20 @@ pub(crate) fn objects() -> &'static [Named]
     ensures { pairs result.now ≡ object_singles }
 {
     &OBJECTS
+}
+
+#[tactic(auto, unfolding(crate::specs::Objects::table_singles))]
+pub(crate) fn object_tables() -> &'static [Named]
+    ensures { pairs result.now ≡ table_singles }
+{
+    &TABLES
+}
+
+#[tactic(auto, unfolding(crate::specs::Objects::table_row_singles))]
+pub(crate) fn table_rows() -> &'static [Named]
+    ensures { pairs result.now ≡ table_row_singles }
+{
+    &TABLE_ROWS
 }
 
 #[tactic(auto, unfolding(crate::specs::Objects::authority_singles))]
