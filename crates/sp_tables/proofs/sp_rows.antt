@@ -2,3 +2,4 @@ pub mod ItemLemmas
 pub mod RunLemmas
 pub mod ExchangeLemmas
 pub mod FamilyLemmas
+pub mod ColumnLemmas

@@ -13,6 +13,7 @@ use Rattle.sp_tables.specs.declared.sp_rows.rows.RangeKeyRow.{RangeKeyRow}
 use Rattle.sp_tables.specs.declared.sp_rows.rows.LockingInfoRow.{LockingInfoRow}
 use Rattle.sp_tables.specs.declared.sp_rows.rows.TableRow.{TableRow}
 use Rattle.sp_tables.specs.declared.sp_rows.rows.DataRemovalRow.{DataRemovalRow}
+use Rattle.sp_tables.specs.declared.sp_rows.constants.ConstantRow.{ConstantRow}
 use Rattle.sp_cells.specs.ColumnNames.{uid_column, name_column, common_name_column, life_cycle_state_column, programmatic_reset_enable_column, pin_column, char_set_column, try_limit_column, tries_column, persistence_column}
 use Rattle.sp_cells.specs.ColumnNames.{is_class_column, class_column, enabled_column, operation_column, credential_column, boolean_expr_column, columns_column}
 use Rattle.sp_cells.specs.ColumnNames.{range_start_column, range_length_column, read_lock_enabled_column, write_lock_enabled_column, read_locked_column, write_locked_column, lock_on_reset_column, mbr_enable_column, mbr_done_column, mbr_done_on_reset_column}
@@ -131,3 +132,7 @@ data_removal_columns r =
     (uid_column, r.uid)
     ∷ (active_data_removal_mechanism_column, r.active)
     ∷ []
+
+-- a row whose cells no host sets, or further columns of a row
+abbrev pub constant_columns : ConstantRow → List (Column × Cell)
+constant_columns r = r.cells.items

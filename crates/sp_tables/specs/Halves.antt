@@ -7,7 +7,7 @@ use Rattle.sp_tables.specs.declared.sp_rows.halves.SpTables.{SpTables}
 use Rattle.sp_tables.specs.declared.sp_rows.halves.FieldTables.{FieldTables}
 use Rattle.sp_tables.specs.Items.{Item}
 use Rattle.sp_tables.specs.Runs.{run_items}
-use Rattle.sp_tables.specs.Columns.{sp_columns, authority_columns, c_pin_columns, locking_columns, mbr_control_columns, tper_info_columns, ace_columns, range_key_columns, locking_info_columns, table_columns, data_removal_columns}
+use Rattle.sp_tables.specs.Columns.{sp_columns, authority_columns, c_pin_columns, locking_columns, mbr_control_columns, tper_info_columns, ace_columns, range_key_columns, locking_info_columns, table_columns, data_removal_columns, constant_columns}
 
 -- those that `Base` has not
 abbrev pub field_items : FieldTables → List Item
@@ -15,7 +15,8 @@ field_items t =
     flat_map (run_items range_key_columns) t.range_keys.items
     ++ (flat_map (run_items locking_info_columns) t.locking_infos.items
     ++ (flat_map (run_items table_columns) t.tables.items
-    ++ flat_map (run_items data_removal_columns) t.data_removals.items))
+    ++ (flat_map (run_items data_removal_columns) t.data_removals.items
+    ++ flat_map (run_items constant_columns) t.constants.items)))
 
 -- the ACEs and those
 abbrev pub last_items : List (Run AceRow) → FieldTables → List Item

@@ -6,7 +6,7 @@ use Rattle.sp_cells.specs.declared.names.Uid.{Uid}
 use Rattle.sp_cells.specs.declared.names.Column.{Column}
 use Rattle.sp_cells.specs.declared.cells.Cell.{Cell}
 use Rattle.sp_cells.specs.declared.cells.Cell.TheVariants.{Number}
-use Rattle.sp_cells.specs.Names.{table_of, c_pin_table, c_pin_sid, c_pin_msid, c_pin_psid, admin_pin_uid, user_pin_uid}
+use Rattle.sp_cells.specs.Names.{table_of, c_pin_table, c_pin_sid, c_pin_msid, c_pin_psid, c_pin_admin_sp_admin, admin_pin_uid, user_pin_uid}
 use Rattle.sp_cells.specs.ColumnNames.{tries_column}
 use Rattle.sp_tables.specs.Items.{Item, with_item}
 
@@ -46,8 +46,9 @@ family_cleared name (suc n) is =
 -- nor in any C_PIN row of the Admin SP
 abbrev pub admin_cleared : List Item → List Item
 admin_cleared is =
-    with_item (with_item (with_item is c_pin_sid tries_column (Number 0)) c_pin_msid tries_column
-    (Number 0)) c_pin_psid tries_column (Number 0)
+    with_item (with_item (with_item (with_item is c_pin_sid tries_column (Number 0)) c_pin_msid
+    tries_column (Number 0)) c_pin_psid tries_column (Number 0)) c_pin_admin_sp_admin tries_column
+    (Number 0)
 
 -- nor in any of the Locking SP
 abbrev pub locking_cleared : List Item → List Item

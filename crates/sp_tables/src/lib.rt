@@ -5,11 +5,13 @@
 mod checks;
 mod halves;
 mod resets;
+pub mod row_names;
 pub mod sp_rows;
 mod undo;
 pub mod whole;
 
 pub use halves::is_pin;
+pub use row_names::rows_of;
 pub use sp_cells::{
     ADMINS, ByteTable, Bytes, Cell, Column, Columns, DriveConfig, Element, Expr, RANGES,
     ResetTypes, Rows, SetError, Sp, TableSizes, USERS, Uid, number_at,

@@ -4,6 +4,8 @@
 mod ace_tables;
 mod aces;
 mod adding;
+mod constant_tables;
+pub mod constants;
 mod entries;
 pub mod exchange;
 pub mod factory;
@@ -14,6 +16,7 @@ mod new_rows;
 pub mod rows;
 pub mod runs;
 
+pub use constants::ConstantRow;
 pub use exchange::{exchange_all, new_cells};
 pub use factory::{new_halves, new_locking_sp};
 pub use halves::{FieldTables, SpTables};

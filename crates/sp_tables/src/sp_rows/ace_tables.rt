@@ -4,12 +4,11 @@
 ghost use Rattle.std.specs.Prelude.{◌≡◌, ◌++◌};
 ghost use Rattle.std.specs.List.{flat_map};
 ghost use Rattle.basics.specs.declared.profile.Profile.{Profile};
-ghost use Rattle.sp_tables.specs.Factory.{in_field, admin_aces, label_aces, removal_aces, authority_aces, pin_aces, range_aces, mbr_aces, gen_key_aces, datastore_aces};
+ghost use Rattle.sp_tables.specs.Factory.{in_field, in_opal, admin_aces, label_aces, removal_aces, authority_aces, pin_aces, range_aces, mbr_aces, gen_key_aces, datastore_aces, opal_admin_aces, opal_locking_aces};
 ghost use Rattle.sp_tables.specs.Entries.{entry_items, ace_items};
 
 use crate::sp_rows::aces::{Ace, AceFamily, Aces, Who};
-use crate::sp_rows::entries::Entry;
-use basics::Profile;
+use crate::sp_rows::entries::{Drives, Entry};
 use sp_cells::{Column, Uid};
 
 /// The columns of a C_PIN row but for its names and the PIN.
@@ -55,10 +54,25 @@ const BUT_NAMES: [Column; 8] = [
 
 /// An entry of one ACE: the drives that have it, its name and its Name cell, who fulfils it, and its columns.
 macro_rules! one {
-    ($profile:expr, $object:expr, $name:expr, $authority:expr, $columns:expr) => {
+    ($drives:ident, $object:expr, $name:expr, $authority:expr, $columns:expr) => {
         Entry {
-            profile: $profile,
+            drives: Drives::$drives,
             rows: Aces::One(Ace {
+                object: $object,
+                name: $name,
+                authority: $authority,
+                columns: $columns,
+            }),
+        }
+    };
+}
+
+/// An entry of an ACE that an Admin fulfils, or the authority: as `one!`.
+macro_rules! admins_or {
+    ($drives:ident, $object:expr, $name:expr, $authority:expr, $columns:expr) => {
+        Entry {
+            drives: Drives::$drives,
+            rows: Aces::AdminsOr(Ace {
                 object: $object,
                 name: $name,
                 authority: $authority,
@@ -71,9 +85,9 @@ macro_rules! one {
 /// An entry of a family of ACEs: the drives that have it, of whom it is, the number in the name of its member 0, the
 /// texts of a Name cell, who fulfils it, and its columns.
 macro_rules! each {
-    ($profile:expr, $of:ident, $number:expr, $before:expr, $behind:expr, $who:expr, $columns:expr) => {
+    ($drives:ident, $of:ident, $number:expr, $before:expr, $behind:expr, $who:expr, $columns:expr) => {
         Entry {
-            profile: $profile,
+            drives: Drives::$drives,
             rows: Aces::$of(AceFamily {
                 number: $number,
                 before: $before,
@@ -85,40 +99,40 @@ macro_rules! each {
     };
 }
 
-/// Every drive has these.
-const ALL: Option<Profile> = None;
-
-const BASE: Option<Profile> = Some(Profile::Base);
-
-const FIELD: Option<Profile> = Some(Profile::Field);
-
 /// The ACEs of the Admin SP.
-static ADMIN_ACES: [Entry<Aces>; 6] = [
-    one!(ALL, Uid::ACE_ANYBODY, "Anybody", Uid::ANYBODY, &[]),
+static ADMIN_ACES: [Entry<Aces>; 7] = [
+    one!(All, Uid::ACE_ANYBODY, "Anybody", Uid::ANYBODY, &[]),
     one!(
-        ALL,
+        ButOpal,
+        Uid::ACE_C_PIN_SID_GET_NOPIN,
+        "C_PIN_SID_Get_NOPIN",
+        Uid::SID,
+        &BUT_PIN
+    ),
+    admins_or!(
+        Opal,
         Uid::ACE_C_PIN_SID_GET_NOPIN,
         "C_PIN_SID_Get_NOPIN",
         Uid::SID,
         &BUT_PIN
     ),
     one!(
-        ALL,
+        All,
         Uid::ACE_C_PIN_SID_SET_PIN,
         "C_PIN_SID_Set_PIN",
         Uid::SID,
         &[Column::PIN]
     ),
     one!(
-        ALL,
+        All,
         Uid::ACE_C_PIN_MSID_GET_PIN,
         "C_PIN_MSID_Get_PIN",
         Uid::ANYBODY,
         &[Column::UID, Column::PIN]
     ),
-    one!(ALL, Uid::ACE_SP_SID, "SP_SID", Uid::SID, &[]),
+    one!(All, Uid::ACE_SP_SID, "SP_SID", Uid::SID, &[]),
     one!(
-        ALL,
+        All,
         Uid::ACE_TPER_INFO_SET_PROGRAMMATIC_RESET_ENABLE,
         "TPerInfo_Set_ProgrammaticResetEnable",
         Uid::SID,
@@ -129,15 +143,15 @@ static ADMIN_ACES: [Entry<Aces>; 6] = [
 /// The ACEs of the label, and of how data are removed.
 static LABEL_ACES: [Entry<Aces>; 3] = [
     one!(
-        FIELD,
+        Field,
         Uid::ACE_C_PIN_GET_PSID_NOPIN,
         "C_PIN_Get_PSID_NOPIN",
         Uid::ANYBODY,
         &BUT_PIN
     ),
-    one!(FIELD, Uid::ACE_SP_PSID, "SP_PSID", Uid::PSID, &[]),
+    one!(Field, Uid::ACE_SP_PSID, "SP_PSID", Uid::PSID, &[]),
     one!(
-        FIELD,
+        Field,
         Uid::ACE_DATA_REMOVAL_SET_ACTIVE,
         "DataRemovalMechanism_Set_Active",
         Uid::SID,
@@ -145,26 +159,45 @@ static LABEL_ACES: [Entry<Aces>; 3] = [
     ),
 ];
 
+/// The further ACEs of the Admin SP, on its Makers and its Admin1.
+static OPAL_ADMIN_ACES: [Entry<Aces>; 3] = [
+    one!(Opal, Uid::ACE_ADMINS, "Admins", Uid::ADMINS, &[]),
+    one!(
+        Opal,
+        Uid::ACE_SET_ENABLED,
+        "Set_Enabled",
+        Uid::SID,
+        &[Column::ENABLED]
+    ),
+    admins_or!(
+        Opal,
+        Uid::ACE_C_PIN_ADMINS_SET_PIN,
+        "C_PIN_Admins_Set_PIN",
+        Uid::SID,
+        &[Column::PIN]
+    ),
+];
+
 /// The ACEs of the Locking SP on authorities, ACEs and the tables as a whole.
 static AUTHORITY_ACES: [Entry<Aces>; 5] = [
-    one!(ALL, Uid::ACE_ANYBODY, "Anybody", Uid::ANYBODY, &[]),
-    one!(ALL, Uid::ACE_ADMINS, "Admins", Uid::ADMINS, &[]),
+    one!(All, Uid::ACE_ANYBODY, "Anybody", Uid::ANYBODY, &[]),
+    one!(All, Uid::ACE_ADMINS, "Admins", Uid::ADMINS, &[]),
     one!(
-        ALL,
+        All,
         Uid::ACE_ANYBODY_GET_COMMON_NAME,
         "Anybody_Get_CommonName",
         Uid::ANYBODY,
         &[Column::UID, Column::COMMON_NAME]
     ),
     one!(
-        ALL,
+        All,
         Uid::ACE_ACE_SET_BOOLEAN_EXPRESSION,
         "ACE_Set_BooleanExpr",
         Uid::ADMINS,
         &[Column::BOOLEAN_EXPR]
     ),
     one!(
-        ALL,
+        All,
         Uid::ACE_AUTHORITY_SET_ENABLED,
         "Authority_Set_Enabled",
         Uid::ADMINS,
@@ -175,21 +208,21 @@ static AUTHORITY_ACES: [Entry<Aces>; 5] = [
 /// Those on C_PIN rows.
 static PIN_ACES: [Entry<Aces>; 3] = [
     one!(
-        ALL,
+        All,
         Uid::ACE_C_PIN_ADMINS_GET_ALL_NOPIN,
         "C_PIN_Get_NOPIN",
         Uid::ADMINS,
         &BUT_PIN
     ),
     one!(
-        ALL,
+        All,
         Uid::ACE_C_PIN_ADMINS_SET_PIN,
         "C_PIN_Admins_Set_PIN",
         Uid::ADMINS,
         &[Column::PIN]
     ),
     each!(
-        ALL,
+        All,
         OfUsers,
         0x3_a800,
         "C_PIN_User",
@@ -202,14 +235,14 @@ static PIN_ACES: [Entry<Aces>; 3] = [
 /// Those on ranges.
 static RANGE_ACES: [Entry<Aces>; 6] = [
     one!(
-        BASE,
+        Base,
         Uid::ACE_LOCKING_GET_ALL,
         "Locking_Get",
         Uid::ADMINS,
         &PLACE_AND_LOCKS
     ),
     each!(
-        FIELD,
+        Field,
         OfRanges,
         0x3_d000,
         "Range_",
@@ -218,7 +251,7 @@ static RANGE_ACES: [Entry<Aces>; 6] = [
         &BUT_NAMES
     ),
     each!(
-        ALL,
+        All,
         OfRanges,
         0x3_e000,
         "Range_",
@@ -227,7 +260,7 @@ static RANGE_ACES: [Entry<Aces>; 6] = [
         &[Column::READ_LOCKED]
     ),
     each!(
-        ALL,
+        All,
         OfRanges,
         0x3_e800,
         "Range_",
@@ -236,14 +269,14 @@ static RANGE_ACES: [Entry<Aces>; 6] = [
         &[Column::WRITE_LOCKED]
     ),
     one!(
-        ALL,
+        All,
         Uid::ACE_LOCKING_GLOBAL_RANGE_ADMINS_SET,
         "Locking_Global_Set",
         Uid::ADMINS,
         &LOCKS
     ),
     one!(
-        ALL,
+        All,
         Uid::ACE_LOCKING_ADMINS_SET,
         "Locking_Range_Set",
         Uid::ADMINS,
@@ -254,7 +287,7 @@ static RANGE_ACES: [Entry<Aces>; 6] = [
 /// Those on the shadow MBR.
 static MBR_ACES: [Entry<Aces>; 2] = [
     one!(
-        ALL,
+        All,
         Uid::ACE_MBR_CONTROL_ADMINS_SET,
         "MBRControl_Set",
         Uid::ADMINS,
@@ -265,7 +298,7 @@ static MBR_ACES: [Entry<Aces>; 2] = [
         ]
     ),
     one!(
-        ALL,
+        All,
         Uid::ACE_MBR_CONTROL_SET_DONE_TO_DOR,
         "MBRControl_Set_DoneToDOR",
         Uid::ADMINS,
@@ -276,7 +309,7 @@ static MBR_ACES: [Entry<Aces>; 2] = [
 /// Those on keys and DataStore.
 static KEY_ACES: [Entry<Aces>; 3] = [
     each!(
-        FIELD,
+        Field,
         OfRanges,
         0x3_b800,
         "K_AES_256_Range_",
@@ -285,14 +318,14 @@ static KEY_ACES: [Entry<Aces>; 3] = [
         &[]
     ),
     one!(
-        FIELD,
+        Field,
         Uid::ACE_DATASTORE_GET_ALL,
         "DataStore_Get_All",
         Uid::ADMINS,
         &[]
     ),
     one!(
-        FIELD,
+        Field,
         Uid::ACE_DATASTORE_SET_ALL,
         "DataStore_Set_All",
         Uid::ADMINS,
@@ -300,9 +333,44 @@ static KEY_ACES: [Entry<Aces>; 3] = [
     ),
 ];
 
+/// The further ACEs of the Locking SP, on names, on reading, and on the mode of a key.
+static OPAL_LOCKING_ACES: [Entry<Aces>; 5] = [
+    one!(
+        Opal,
+        Uid::ACE_ADMINS_SET_COMMON_NAME,
+        "Admins_Set_CommonName",
+        Uid::ADMINS,
+        &[Column::COMMON_NAME]
+    ),
+    one!(Opal, Uid::ACE_ACE_GET_ALL, "ACE_Get_All", Uid::ADMINS, &[]),
+    one!(
+        Opal,
+        Uid::ACE_AUTHORITY_GET_ALL,
+        "Authority_Get_All",
+        Uid::ADMINS,
+        &[]
+    ),
+    each!(
+        Opal,
+        OfUsers,
+        0x4_4000,
+        "User",
+        "_Set_CommonName",
+        Who::AdminsOrUser,
+        &[Column::COMMON_NAME]
+    ),
+    one!(
+        Opal,
+        Uid::ACE_KEY_MODE,
+        "K_AES_Mode",
+        Uid::ANYBODY,
+        &[Column::MODE]
+    ),
+];
+
 /// The ACEs of the Admin SP.
 pub(crate) fn admin_entries() -> &'static [Entry<Aces>]
-    ensures { (p : Profile) → flat_map (entry_items ace_items p) result.now ≡ admin_aces }
+    ensures { (p : Profile) → flat_map (entry_items ace_items p) result.now ≡ admin_aces p }
 {
     &ADMIN_ACES
 }
@@ -313,6 +381,14 @@ pub(crate) fn label_entries() -> &'static [Entry<Aces>]
         ≡ in_field p label_aces ++ in_field p removal_aces }
 {
     &LABEL_ACES
+}
+
+/// The further ACEs of the Admin SP.
+pub(crate) fn opal_admin_entries() -> &'static [Entry<Aces>]
+    ensures { (p : Profile) → flat_map (entry_items ace_items p) result.now
+        ≡ in_opal p opal_admin_aces }
+{
+    &OPAL_ADMIN_ACES
 }
 
 /// The ACEs of the Locking SP on authorities, ACEs and the tables as a whole.
@@ -349,4 +425,12 @@ pub(crate) fn key_entries() -> &'static [Entry<Aces>]
         ≡ in_field p gen_key_aces ++ in_field p datastore_aces }
 {
     &KEY_ACES
+}
+
+/// The further ACEs of the Locking SP.
+pub(crate) fn opal_locking_entries() -> &'static [Entry<Aces>]
+    ensures { (p : Profile) → flat_map (entry_items ace_items p) result.now
+        ≡ in_opal p opal_locking_aces }
+{
+    &OPAL_LOCKING_ACES
 }

@@ -4,7 +4,7 @@ ghost use Rattle.std.specs.Prelude.{◌≡◌, ◌+◌, ◌++◌, IfOk, OnOk, st
 ghost use Rattle.sp_cells.specs.Names.{uid, ace_base};
 ghost use Rattle.sp_tables.specs.Items.{row_items};
 ghost use Rattle.sp_tables.specs.Columns.{ace_columns};
-ghost use Rattle.sp_tables.specs.Factory.{AddsRows, family};
+ghost use Rattle.sp_tables.specs.Factory.{AddsRows, admins_or_row, family};
 ghost use Rattle.sp_tables.specs.Entries.{who_fulfils, member_ace, ace_items};
 
 use crate::sp_rows::adding::{push_ace, push_one};
@@ -43,6 +43,8 @@ pub(crate) struct AceFamily {
 /// The ACEs of an entry.
 pub(crate) enum Aces {
     One(Ace),
+    /// One that an Admin fulfils, or its authority.
+    AdminsOr(Ace),
     /// One for each User.
     OfUsers(AceFamily),
     /// One for each range, the global one first.
@@ -129,6 +131,18 @@ fn push_of_ranges(
     Ok(())
 }
 
+/// Adds an ACE that an Admin fulfils, or its authority.
+fn push_admins_or(alloc: Global, runs: &mut Vec<Run<AceRow>>, it: &Ace) -> Result<(), AllocError>
+    ensures { OnOk result (AddsRows ace_columns runs.old.items runs.new.items
+        (admins_or_row it.now.object it.now.name.now it.now.authority it.now.columns.now)) }
+{
+    let name = String::from_str(alloc, it.name)?;
+    let expr = either(alloc, Uid::ADMINS, it.authority)?;
+    let row = ace(alloc, it.object, name, expr, it.columns)?;
+    push_one(alloc, runs, it.object, row)?;
+    Ok(())
+}
+
 impl Adds<AceRow> for Aces {
     ghost use Rattle.sp_tables.specs.Entries.{ace_items};
 
@@ -137,6 +151,7 @@ impl Adds<AceRow> for Aces {
     fn add(&self, alloc: Global, runs: &mut Vec<Run<AceRow>>) -> Result<(), AllocError> {
         match self {
             Aces::One(it) => push_ace(alloc, runs, it.object, it.name, it.authority, it.columns)?,
+            Aces::AdminsOr(it) => push_admins_or(alloc, runs, it)?,
             Aces::OfUsers(members) => push_family(alloc, runs, members, USERS)?,
             Aces::OfRanges(members) => push_of_ranges(alloc, runs, members)?,
         }

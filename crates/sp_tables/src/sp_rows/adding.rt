@@ -5,10 +5,9 @@ ghost use Rattle.std.specs.List.{flat_map};
 ghost use Rattle.sp_cells.specs.declared.cells.Element.TheVariants as elements;
 ghost use Rattle.sp_tables.specs.Items.{row_items, rows_from};
 ghost use Rattle.sp_tables.specs.Columns.{authority_columns, c_pin_columns, ace_columns};
-ghost use Rattle.sp_tables.specs.Factory.{AddsRows, new_group, new_member, new_pin, ace_row};
-ghost use Rattle.sp_cells.specs.Names.{none};
+ghost use Rattle.sp_tables.specs.Factory.{AddsRows, new_group, new_pin, ace_row};
 
-use crate::sp_rows::new_rows::{ace, group, member, only, pin, push_row};
+use crate::sp_rows::new_rows::{ace, group, only, pin, push_row};
 use crate::sp_rows::{AceRow, AuthorityRow, CPinRow, Row, Run};
 use sp_cells::{Column, Uid};
 use std::alloc::{AllocError, Global};
@@ -57,23 +56,6 @@ pub(crate) fn push_group(
 {
     let name = String::from_str(alloc, name)?;
     push_one(alloc, runs, object, group(alloc, object, name, is_class))?;
-    Ok(())
-}
-
-/// Adds an authority that is of no class, enabled, and signs in with a PIN.
-pub(crate) fn push_member(
-    alloc: Global,
-    runs: &mut Vec<Run<AuthorityRow>>,
-    object: Uid,
-    name: &str,
-    credential: Uid,
-) -> Result<(), AllocError>
-    ensures { OnOk result (AddsRows authority_columns runs.old.items runs.new.items
-        (row_items object (new_member object name.now none 1 credential))) }
-{
-    let name = String::from_str(alloc, name)?;
-    let row = member(alloc, object, name, Uid::NONE, 1, credential);
-    push_one(alloc, runs, object, row)?;
     Ok(())
 }
 

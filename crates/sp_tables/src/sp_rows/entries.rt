@@ -16,9 +16,35 @@ use basics::Profile;
 use sp_cells::Uid;
 use std::alloc::{AllocError, Global};
 
-/// Rows that every drive has, or those of a profile: of `Field`, those of `Opal` too.
+/// The drives that have the rows of an entry.
+pub(crate) enum Drives {
+    All,
+    Base,
+    /// Those of `Field` and of `Opal`, which has all of it.
+    Field,
+    Opal,
+    /// All but those of `Opal`.
+    ButOpal,
+}
+
+impl Drives {
+    /// A drive of this profile is one of them.
+    pub(crate) fn has(&self, profile: Profile) -> bool
+        ensures { result ≡ is_in self.now profile }
+    {
+        match self {
+            Drives::All => true,
+            Drives::Base => !profile.has_field(),
+            Drives::Field => profile.has_field(),
+            Drives::Opal => profile == Profile::Opal,
+            Drives::ButOpal => profile != Profile::Opal,
+        }
+    }
+}
+
+/// Rows, and the drives that have them.
 pub(crate) struct Entry<E> {
-    pub(crate) profile: Option<Profile>,
+    pub(crate) drives: Drives,
     pub(crate) rows: E,
 }
 
@@ -78,20 +104,6 @@ pub(crate) fn push_family<R: Row + Drop, F: Numbered<R>>(
     Ok(())
 }
 
-impl<E> Entry<E> {
-    /// A drive of this profile has the rows.
-    fn is_in(&self, profile: Profile) -> bool
-        ensures { result ≡ is_in self.now.profile profile }
-    {
-        match self.profile {
-            None => true,
-            Some(Profile::Base) => !profile.has_field(),
-            Some(Profile::Field) => profile.has_field(),
-            Some(Profile::Opal) => profile == Profile::Opal,
-        }
-    }
-}
-
 /// Adds the rows of an entry, where the profile has them.
 fn push_entry<R: Row + Drop, E: Adds<R>>(
     alloc: Global,
@@ -102,7 +114,7 @@ fn push_entry<R: Row + Drop, E: Adds<R>>(
     ensures { OnOk result (AddsRows R.held runs.old.items runs.new.items
         (entry_items E.items profile entry.now)) }
 {
-    if entry.is_in(profile) {
+    if entry.drives.has(profile) {
         entry.rows.add(alloc, runs)?;
     }
     Ok(())

@@ -4,22 +4,24 @@ ghost use Rattle.std.specs.Prelude.{◌≡◌, ◌+◌, ◌<◌, ◌≤◌, ◌^
 ghost use Rattle.std.specs.List.{flat_map};
 ghost use Rattle.sp_tables.specs.Halves.{half_items, field_items};
 ghost use Rattle.sp_tables.specs.Columns.{sp_columns, authority_columns, c_pin_columns, locking_columns, mbr_control_columns, tper_info_columns, ace_columns};
-ghost use Rattle.sp_tables.specs.Factory.{HasRows, AddsRows, in_field, admin_sps, admin_authorities, label_authorities, admin_pins, label_pins, admin_tper_infos, admin_aces, label_aces, removal_aces, data_removals, locking_authorities, locking_pins, locking_ranges, locking_mbr_controls, locking_aces, range_keys, locking_infos, byte_tables, admin_factory, locking_factory};
+ghost use Rattle.sp_tables.specs.Factory.{HasRows, AddsRows, in_field, in_opal, admin_sps, admin_authorities, label_authorities, admin_pins, label_pins, admin_tper_infos, admin_aces, label_aces, removal_aces, data_removals, locking_authorities, locking_pins, locking_ranges, locking_mbr_controls, locking_aces, range_keys, locking_infos, byte_tables, opal_authorities, opal_pins, opal_admin_aces, admin_constants, locking_constants, admin_factory, locking_factory};
 ghost use Rattle.sp_tables.specs.Entries.{entry_items};
 ghost use Rattle.sp_cells.specs.Config.{sizes_in};
 ghost use Rattle.sp_cells.specs.Limits.{most_mbr_sectors};
 
 use crate::sp_rows::ace_tables::{
-    admin_entries, authority_entries, key_entries, label_entries, mbr_entries, pin_entries,
-    range_entries,
+    admin_entries, authority_entries, key_entries, label_entries, mbr_entries, opal_admin_entries,
+    opal_locking_entries, pin_entries, range_entries,
 };
 use crate::sp_rows::adding::{push_one, push_pin};
+use crate::sp_rows::constant_tables::{admin_constant_entries, locking_constant_entries};
 use crate::sp_rows::entries::{Adds, Entry, push_entries, push_family};
 use crate::sp_rows::families::{
     Ranges, admin_authority_entries, locking_authority_entries, locking_pin_entries,
 };
 use crate::sp_rows::field_rows::{
-    byte_tables_made, data_removals_made, locking_infos_made, push_label_pin, range_keys_made,
+    byte_tables_made, data_removals_made, locking_infos_made, push_label_pin, push_opal_pin,
+    range_keys_made,
 };
 use crate::sp_rows::new_rows::{mbr_control, range, sp_row, tper_info};
 use crate::sp_rows::{
@@ -72,7 +74,8 @@ fn admin_authorities_made(
     profile: Profile,
 ) -> Result<Vec<Run<AuthorityRow>>, AllocError>
     ensures { IfOk result (λ runs. HasRows authority_columns runs.items
-        (admin_authorities ++ in_field profile label_authorities)) }
+        (admin_authorities ++ in_field profile label_authorities
+        ++ in_opal profile opal_authorities)) }
 {
     let runs = made(alloc, profile, admin_authority_entries())?;
     Ok(runs)
@@ -120,11 +123,13 @@ fn push_admin_pins(
 fn admin_pins_made(alloc: Global, config: &DriveConfig) -> Result<Vec<Run<CPinRow>>, AllocError>
     ensures { IfOk result (λ runs. HasRows c_pin_columns runs.items
         (admin_pins config.now.msid
-        ++ in_field config.now.profile (label_pins config.now.psid))) }
+        ++ in_field config.now.profile (label_pins config.now.psid)
+        ++ in_opal config.now.profile opal_pins)) }
 {
     let mut runs = Vec::new(alloc);
     push_admin_pins(alloc, config.msid(), &mut runs)?;
     push_label_pin(alloc, config.profile(), config.psid(), &mut runs)?;
+    push_opal_pin(alloc, config.profile(), &mut runs)?;
     Ok(runs)
 }
 
@@ -180,16 +185,19 @@ fn push_admin_aces(
     runs: &mut Vec<Run<AceRow>>,
 ) -> Result<(), AllocError>
     ensures { OnOk result (AddsRows ace_columns runs.old.items runs.new.items
-        (admin_aces ++ in_field profile label_aces ++ in_field profile removal_aces)) }
+        (admin_aces profile ++ in_field profile label_aces ++ in_field profile removal_aces
+        ++ in_opal profile opal_admin_aces)) }
 {
     push_entries(alloc, profile, runs, admin_entries())?;
     push_entries(alloc, profile, runs, label_entries())?;
+    push_entries(alloc, profile, runs, opal_admin_entries())?;
     Ok(())
 }
 
 fn admin_aces_made(alloc: Global, profile: Profile) -> Result<Vec<Run<AceRow>>, AllocError>
     ensures { IfOk result (λ runs. HasRows ace_columns runs.items
-        (admin_aces ++ in_field profile label_aces ++ in_field profile removal_aces)) }
+        (admin_aces profile ++ in_field profile label_aces ++ in_field profile removal_aces
+        ++ in_opal profile opal_admin_aces)) }
 {
     let mut runs = Vec::new(alloc);
     push_admin_aces(alloc, profile, &mut runs)?;
@@ -210,6 +218,7 @@ fn push_locking_aces(
     push_entries(alloc, profile, runs, range_entries())?;
     push_entries(alloc, profile, runs, mbr_entries())?;
     push_entries(alloc, profile, runs, key_entries())?;
+    push_entries(alloc, profile, runs, opal_locking_entries())?;
     Ok(())
 }
 
@@ -223,13 +232,15 @@ fn locking_aces_made(alloc: Global, profile: Profile) -> Result<Vec<Run<AceRow>>
 
 /// The tables of the Admin SP that `Base` leaves empty.
 fn admin_field_made(alloc: Global, profile: Profile) -> Result<FieldTables, AllocError>
-    ensures { IfOk result (λ t. field_items t ≡ in_field profile data_removals) }
+    ensures { IfOk result (λ t. field_items t
+        ≡ in_field profile data_removals ++ in_opal profile admin_constants) }
 {
     Ok(FieldTables {
         data_removals: data_removals_made(alloc, profile)?,
         range_keys: Vec::new(alloc),
         locking_infos: Vec::new(alloc),
         tables: Vec::new(alloc),
+        constants: made(alloc, profile, admin_constant_entries())?,
     })
 }
 
@@ -259,13 +270,15 @@ fn locking_field_made(
 ) -> Result<FieldTables, AllocError>
     requires { sizes.mbr_sectors ≤ most_mbr_sectors }
     ensures { IfOk result (λ t. field_items t ≡ in_field profile range_keys
-        ++ (in_field profile locking_infos ++ in_field profile (byte_tables sizes))) }
+        ++ (in_field profile locking_infos ++ (in_field profile (byte_tables sizes)
+        ++ in_opal profile locking_constants))) }
 {
     Ok(FieldTables {
         range_keys: range_keys_made(alloc, profile)?,
         locking_infos: locking_infos_made(alloc, profile)?,
         tables: byte_tables_made(alloc, profile, sizes)?,
         data_removals: Vec::new(alloc),
+        constants: made(alloc, profile, locking_constant_entries())?,
     })
 }
 

@@ -1,16 +1,17 @@
 //! The authorities of a new drive with their PINs, and its ranges with their keys: those that have a number.
 
-ghost use Rattle.std.specs.Prelude.{◌≡◌, ◌+◌, ◌++◌, ◌==◌, if◌then◌else◌};
+ghost use Rattle.std.specs.Prelude.{◌≡◌, ◌+◌, ◌++◌, ◌==◌, OnOk, if◌then◌else◌};
+ghost use Rattle.sp_tables.specs.Items.{row_items};
+ghost use Rattle.sp_tables.specs.Columns.{authority_columns};
 ghost use Rattle.std.specs.List.{flat_map};
 ghost use Rattle.basics.specs.declared.profile.Profile.{Profile};
-ghost use Rattle.sp_tables.specs.Factory.{in_field, admin_authorities, label_authorities, locking_authorities, locking_pins};
+ghost use Rattle.sp_tables.specs.Factory.{AddsRows, new_member, in_field, in_opal, admin_authorities, label_authorities, opal_authorities, locking_authorities, locking_pins};
 ghost use Rattle.sp_tables.specs.Entries.{entry_items, authority_items, pin_items};
 
-use crate::sp_rows::adding::{push_group, push_member};
-use crate::sp_rows::entries::{Adds, Entry, Numbered, push_family};
+use crate::sp_rows::adding::{push_group, push_one};
+use crate::sp_rows::entries::{Adds, Drives, Entry, Numbered, push_family};
 use crate::sp_rows::new_rows::{member, pin, range, range_key};
 use crate::sp_rows::{AuthorityRow, CPinRow, LockingRow, RangeKeyRow, Run};
-use basics::Profile;
 use sp_cells::limits::NEW_TRY_LIMIT;
 use sp_cells::names::tables;
 use sp_cells::{ADMINS, USERS, Uid};
@@ -29,10 +30,12 @@ pub(crate) struct Group {
     pub(crate) is_class: u64,
 }
 
-/// An authority that is of no class, enabled, and signs in with a PIN.
+/// An authority that signs in with a PIN.
 pub(crate) struct Member {
     pub(crate) object: Uid,
     pub(crate) name: &'static str,
+    pub(crate) class: Uid,
+    pub(crate) enabled: u64,
     pub(crate) credential: Uid,
 }
 
@@ -88,6 +91,22 @@ impl Numbered<AuthorityRow> for AuthorityFamily {
     }
 }
 
+/// Adds an authority that signs in with a PIN.
+fn push_member(
+    alloc: Global,
+    runs: &mut Vec<Run<AuthorityRow>>,
+    it: &Member,
+) -> Result<(), AllocError>
+    ensures { OnOk result (AddsRows authority_columns runs.old.items runs.new.items
+        (row_items it.now.object (new_member
+        it.now.object it.now.name.now it.now.class it.now.enabled it.now.credential))) }
+{
+    let name = String::from_str(alloc, it.name)?;
+    let row = member(alloc, it.object, name, it.class, it.enabled, it.credential);
+    push_one(alloc, runs, it.object, row)?;
+    Ok(())
+}
+
 impl Adds<AuthorityRow> for Authorities {
     ghost use Rattle.sp_tables.specs.Entries.{authority_items};
 
@@ -96,7 +115,7 @@ impl Adds<AuthorityRow> for Authorities {
     fn add(&self, alloc: Global, runs: &mut Vec<Run<AuthorityRow>>) -> Result<(), AllocError> {
         match self {
             Authorities::Group(it) => push_group(alloc, runs, it.object, it.name, it.is_class)?,
-            Authorities::Member(it) => push_member(alloc, runs, it.object, it.name, it.credential)?,
+            Authorities::Member(it) => push_member(alloc, runs, it)?,
             Authorities::Each(members) => push_family(alloc, runs, members, members.count)?,
         }
         Ok(())
@@ -183,9 +202,9 @@ impl Numbered<RangeKeyRow> for RangeKeys {
 }
 
 /// The authorities of the Admin SP.
-static ADMIN_AUTHORITIES: [Entry<Authorities>; 3] = [
+static ADMIN_AUTHORITIES: [Entry<Authorities>; 6] = [
     Entry {
-        profile: None,
+        drives: Drives::All,
         rows: Authorities::Group(Group {
             object: Uid::ANYBODY,
             name: "Anybody",
@@ -193,35 +212,27 @@ static ADMIN_AUTHORITIES: [Entry<Authorities>; 3] = [
         }),
     },
     Entry {
-        profile: None,
+        drives: Drives::All,
         rows: Authorities::Member(Member {
             object: Uid::SID,
             name: "SID",
+            class: Uid::NONE,
+            enabled: 1,
             credential: Uid::C_PIN_SID,
         }),
     },
     Entry {
-        profile: Some(Profile::Field),
+        drives: Drives::Field,
         rows: Authorities::Member(Member {
             object: Uid::PSID,
             name: "PSID",
+            class: Uid::NONE,
+            enabled: 1,
             credential: Uid::C_PIN_PSID,
         }),
     },
-];
-
-/// The authorities of the Locking SP.
-static LOCKING_AUTHORITIES: [Entry<Authorities>; 5] = [
     Entry {
-        profile: None,
-        rows: Authorities::Group(Group {
-            object: Uid::ANYBODY,
-            name: "Anybody",
-            is_class: 0,
-        }),
-    },
-    Entry {
-        profile: None,
+        drives: Drives::Opal,
         rows: Authorities::Group(Group {
             object: Uid::ADMINS,
             name: "Admins",
@@ -229,7 +240,45 @@ static LOCKING_AUTHORITIES: [Entry<Authorities>; 5] = [
         }),
     },
     Entry {
-        profile: None,
+        drives: Drives::Opal,
+        rows: Authorities::Group(Group {
+            object: Uid::MAKERS,
+            name: "Makers",
+            is_class: 1,
+        }),
+    },
+    Entry {
+        drives: Drives::Opal,
+        rows: Authorities::Member(Member {
+            object: Uid::ADMIN_SP_ADMIN,
+            name: "Admin1",
+            class: Uid::ADMINS,
+            enabled: 0,
+            credential: Uid::C_PIN_ADMIN_SP_ADMIN,
+        }),
+    },
+];
+
+/// The authorities of the Locking SP.
+static LOCKING_AUTHORITIES: [Entry<Authorities>; 5] = [
+    Entry {
+        drives: Drives::All,
+        rows: Authorities::Group(Group {
+            object: Uid::ANYBODY,
+            name: "Anybody",
+            is_class: 0,
+        }),
+    },
+    Entry {
+        drives: Drives::All,
+        rows: Authorities::Group(Group {
+            object: Uid::ADMINS,
+            name: "Admins",
+            is_class: 1,
+        }),
+    },
+    Entry {
+        drives: Drives::All,
         rows: Authorities::Each(AuthorityFamily {
             number: 0x1_0000,
             name: "Admin",
@@ -239,7 +288,7 @@ static LOCKING_AUTHORITIES: [Entry<Authorities>; 5] = [
         }),
     },
     Entry {
-        profile: None,
+        drives: Drives::All,
         rows: Authorities::Group(Group {
             object: Uid::USERS,
             name: "Users",
@@ -247,7 +296,7 @@ static LOCKING_AUTHORITIES: [Entry<Authorities>; 5] = [
         }),
     },
     Entry {
-        profile: None,
+        drives: Drives::All,
         rows: Authorities::Each(AuthorityFamily {
             number: 0x3_0000,
             name: "User",
@@ -261,7 +310,7 @@ static LOCKING_AUTHORITIES: [Entry<Authorities>; 5] = [
 /// The PINs of the Locking SP.
 static LOCKING_PINS: [Entry<PinFamily>; 2] = [
     Entry {
-        profile: None,
+        drives: Drives::All,
         rows: PinFamily {
             number: 0x1_0000,
             name: "C_PIN_Admin",
@@ -269,7 +318,7 @@ static LOCKING_PINS: [Entry<PinFamily>; 2] = [
         },
     },
     Entry {
-        profile: None,
+        drives: Drives::All,
         rows: PinFamily {
             number: 0x3_0000,
             name: "C_PIN_User",
@@ -281,7 +330,7 @@ static LOCKING_PINS: [Entry<PinFamily>; 2] = [
 /// The authorities of the Admin SP.
 pub(crate) fn admin_authority_entries() -> &'static [Entry<Authorities>]
     ensures { (p : Profile) → flat_map (entry_items authority_items p) result.now
-        ≡ admin_authorities ++ in_field p label_authorities }
+        ≡ admin_authorities ++ in_field p label_authorities ++ in_opal p opal_authorities }
 {
     &ADMIN_AUTHORITIES
 }

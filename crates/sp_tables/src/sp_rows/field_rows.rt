@@ -1,14 +1,15 @@
-//! The rows that a drive has under the profile `Field`, and under each that has all of it.
+//! The rows that a drive has under the profile `Field`, and under each that has all of it, and the PIN that one of
+//! `Opal` has.
 
 ghost use Rattle.std.specs.Prelude.{◌≡◌, ◌+◌, ◌<◌, ◌≤◌, ◌^◌, [], ◌∷◌, ◌++◌, IfOk, OnOk, string_bytes, map, codes};
 ghost use Rattle.std.specs.List.{flat_map};
 ghost use Rattle.sp_cells.specs.Limits.{most_mbr_sectors};
 ghost use Rattle.sp_tables.specs.Items.{row_items};
 ghost use Rattle.sp_tables.specs.Columns.{c_pin_columns, range_key_columns, locking_info_columns, table_columns, data_removal_columns};
-ghost use Rattle.sp_tables.specs.Factory.{HasRows, AddsRows, in_field, label_pins, new_byte_table, range_keys, locking_infos, byte_tables, data_removals};
+ghost use Rattle.sp_tables.specs.Factory.{HasRows, AddsRows, in_field, in_opal, label_pins, opal_pins, new_byte_table, range_keys, locking_infos, byte_tables, data_removals};
 
 use crate::sp_rows::adding::{push_one, push_pin};
-use crate::sp_rows::entries::push_family;
+use crate::sp_rows::entries::{Drives, push_family};
 use crate::sp_rows::families::RangeKeys;
 use crate::sp_rows::new_rows::{byte_table, data_removal, locking_info, range_key};
 use crate::sp_rows::{CPinRow, DataRemovalRow, LockingInfoRow, RangeKeyRow, Run, TableRow};
@@ -37,6 +38,30 @@ pub(crate) fn push_label_pin(
         Uid::C_PIN_PSID,
         "C_PIN_PSID",
         psid,
+        NEW_TRY_LIMIT,
+    )?;
+    Ok(())
+}
+
+/// Adds the PIN of the Admin SP's Admin1.
+#[tactic(auto, using(crate::proofs::sp_rows::FamilyLemmas::pushing), unfolding(crate::specs::Factory::opal_pins))]
+pub(crate) fn push_opal_pin(
+    alloc: Global,
+    profile: Profile,
+    runs: &mut Vec<Run<CPinRow>>,
+) -> Result<(), AllocError>
+    ensures { OnOk result (AddsRows c_pin_columns runs.old.items runs.new.items
+        (in_opal profile opal_pins)) }
+{
+    if !Drives::Opal.has(profile) {
+        return Ok(());
+    }
+    push_pin(
+        alloc,
+        runs,
+        Uid::C_PIN_ADMIN_SP_ADMIN,
+        "C_PIN_Admin1",
+        &[],
         NEW_TRY_LIMIT,
     )?;
     Ok(())

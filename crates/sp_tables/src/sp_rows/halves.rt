@@ -5,6 +5,7 @@ ghost use Rattle.std.specs.Bool.{OnTrue, OnFalse};
 ghost use Rattle.sp_tables.specs.Items.{item_at, with_item};
 ghost use Rattle.sp_tables.specs.Halves.{last_items};
 
+use crate::sp_rows::constants::ConstantRow;
 use crate::sp_rows::rows::{
     AceRow, AuthorityRow, CPinRow, DataRemovalRow, LockingInfoRow, LockingRow, MbrControlRow,
     RangeKeyRow, SpRow, TableRow, TperInfoRow,
@@ -12,13 +13,14 @@ use crate::sp_rows::rows::{
 use crate::sp_rows::runs::{Run, find_cell, swap_in};
 use sp_cells::{Cell, Column, Uid};
 
-/// The tables that a drive of the profile `Field` alone has, each as runs of rows.
+/// The tables that a drive of the profile `Base` has not, each as runs of rows, and the rows whose cells no host sets.
 #[derive(Drop)]
 pub struct FieldTables {
     pub range_keys: Vec<Run<RangeKeyRow>>,
     pub locking_infos: Vec<Run<LockingInfoRow>>,
     pub tables: Vec<Run<TableRow>>,
     pub data_removals: Vec<Run<DataRemovalRow>>,
+    pub constants: Vec<Run<ConstantRow>>,
 }
 
 #[tactic(auto, using(crate::proofs::sp_rows::ItemLemmas::joined))]
@@ -38,7 +40,10 @@ impl FieldTables {
         if let Some(cell) = find_cell(self.tables.as_slice(), object, column) {
             return Some(cell);
         }
-        find_cell(self.data_removals.as_slice(), object, column)
+        if let Some(cell) = find_cell(self.data_removals.as_slice(), object, column) {
+            return Some(cell);
+        }
+        find_cell(self.constants.as_slice(), object, column)
     }
 
     /// Exchanges the cell at a place, where there is one.
@@ -53,6 +58,7 @@ impl FieldTables {
             || swap_in(&mut self.locking_infos, object, column, cell)
             || swap_in(&mut self.tables, object, column, cell)
             || swap_in(&mut self.data_removals, object, column, cell)
+            || swap_in(&mut self.constants, object, column, cell)
     }
 }
 

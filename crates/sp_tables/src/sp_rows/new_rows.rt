@@ -21,14 +21,14 @@ use sp_cells::{Bytes, Cell, Column, Columns, Element, Expr, RANGES, ResetTypes, 
 use std::alloc::{AllocError, Global};
 
 /// A name as a cell.
-fn text(name: String) -> Cell
+pub fn text(name: String) -> Cell
     ensures { result ≡ cells.Bytes (string_bytes name) }
 {
     Cell::Bytes(Bytes::from_vec(name.into_bytes()))
 }
 
 /// A CommonName that no host has set.
-fn no_text(alloc: Global) -> Cell
+pub fn no_text(alloc: Global) -> Cell
     ensures { result ≡ cells.Bytes [] }
 {
     Cell::Bytes(Bytes::from_vec(Vec::new(alloc)))

@@ -1,7 +1,8 @@
 use Rattle.std.proofs.Common.{refl}
+use Rattle.basics.specs.declared.profile.Profile.TheVariants.{Base, Field, Opal}
 use Rattle.sp_tables.specs.Factory.{admin_aces}
 use Rattle.sp_tables.proofs.sp_rows.ace_tables.admin_entries.Goals as goal
 
 pub returns : goal.returns
 unfolding admin_aces
-returns c = λ p. refl
+returns c = elim [ Base ↦ refl | Field ↦ refl | Opal ↦ refl ]

@@ -7,4 +7,6 @@ returns c =
     let t0 = c.admin_entries.ensures c.args.profile in
     let e1 = c.in_ok-push_entries-2.ensures in
     let t1 = c.label_entries.ensures c.args.profile in
-    rw (e1, t1, e0, t0) (simp append_assoc)
+    let e2 = c.in_ok-push_entries-3.ensures in
+    let t2 = c.opal_admin_entries.ensures c.args.profile in
+    rw (e2, t2, e1, t1, e0, t0) (simp append_assoc)

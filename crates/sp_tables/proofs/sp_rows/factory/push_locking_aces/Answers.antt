@@ -13,4 +13,6 @@ returns c =
     let t3 = c.mbr_entries.ensures c.args.profile in
     let e4 = c.in_ok-push_entries-5.ensures in
     let t4 = c.key_entries.ensures c.args.profile in
-    rw (e4, t4, e3, t3, e2, t2, e1, t1, e0, t0) (simp append_assoc)
+    let e5 = c.in_ok-push_entries-6.ensures in
+    let t5 = c.opal_locking_entries.ensures c.args.profile in
+    rw (e5, t5, e4, t4, e3, t3, e2, t2, e1, t1, e0, t0) (simp append_assoc)
