@@ -103,7 +103,7 @@ fn reverters_of_locking(profile: Profile) -> ArrayVec<Uid, 4>
 }
 
 /// The ACEs that may read an ACE of the Locking SP.
-fn ace_getters(profile: Profile) -> ArrayVec<Uid, 4>
+pub fn ace_getters(profile: Profile) -> ArrayVec<Uid, 4>
     ensures { result.items ≡ ace_getters_of profile }
 {
     match profile {

@@ -1,12 +1,11 @@
 //! The ACL of each method that an SP offers under the profile `Opal` alone.
 
-ghost use Rattle.std.specs.Prelude.{◌≡◌, ◌+◌, ◌-◌, ◌*◌, ◌/◌, ◌%◌, ◌==◌, nat_lt, [], ◌∷◌, ◌++◌, map, option_map, Some, None, if◌then◌else◌};
-ghost use Rattle.sp_cells.specs.Names.{table_of, table_uid, table_row};
-ghost use Rattle.ace_eval.specs.Access.{IsAnsweredByGrants, sp_grants, own_grants, listed_grants, told_grants, method_grants, maker_grants, name_grants, mode_grants, ace_getters};
+ghost use Rattle.std.specs.Prelude.{◌≡◌, ◌-◌, ◌%◌, ◌==◌, nat_lt, Some, None, if◌then◌else◌};
+ghost use Rattle.sp_cells.specs.Names.{table_of, table_row};
+ghost use Rattle.ace_eval.specs.Access.{IsAnsweredByGrants, sp_grants, own_grants, listed_grants, told_grants, method_grants, maker_grants, name_grants, mode_grants};
 ghost use Rattle.sp_cells.specs.declared.names.Sp.TheVariants.{Admin, Locking};
-ghost use Rattle.basics.specs.declared.profile.Profile.TheVariants.{Opal};
 
-use crate::access_list::access::{one, settable};
+use crate::access_list::access::{ace_getters, one, settable};
 use arrayvec::ArrayVec;
 use basics::Profile;
 use sp_cells::names::tables;
@@ -170,7 +169,7 @@ pub fn name_row(object: Uid, method: Uid) -> Option<ArrayVec<Uid, 4>>
             | Uid::ACE_AUTHORITY_GET_ALL
             | Uid::ACE_KEY_MODE,
             Uid::GET,
-        ) => Some(one(Uid::ACE_ACE_GET_ALL)),
+        ) => Some(ace_getters(Profile::Opal)),
         (_, Uid::SET) if object.admin_number() == Some(1) => {
             Some(one(Uid::ACE_ADMINS_SET_COMMON_NAME))
         }
