@@ -10,10 +10,9 @@ ghost use Rattle.methods.specs.declared.outcome.MethodFault.TheVariants as fault
 
 use crate::cases::method_cases;
 use crate::grants::denied;
-use crate::handlers;
 use crate::kinds::{Handler, Kind, byte_table_of, kind_of};
 use crate::outcome::{self, MethodFault, Outcome, refused};
-use crate::tables;
+use crate::{handlers, tables};
 use ace_eval::Authorities;
 use audit::Why;
 use audit::rules::Rule;

@@ -12,7 +12,7 @@ mod laws;
 mod lists;
 mod outcome;
 mod plain;
-mod set_types;
+mod set_columns;
 mod settings;
 mod tables;
 
@@ -24,5 +24,5 @@ pub use laws::{laws_of_cases, laws_of_grants, laws_of_lists, laws_of_sets};
 pub use lists::list_columns;
 pub use outcome::{MethodFault, Outcome};
 pub use plain::{PlainGet, get_plainly, read_plain_get};
-pub use set_types::set_types;
+pub use set_columns::set_types;
 pub use settings::check_set;

@@ -9,7 +9,7 @@ ghost use Rattle.methods.specs.Kinds.{kind_of as kind_of_object};
 
 use crate::cases::method_cases;
 use crate::kinds::{Kind, byte_table_of, kind_of};
-use crate::set_types::set_types;
+use crate::set_columns::set_types;
 use sp_cells::values::ColumnType;
 use sp_cells::{ByteTable, Cell, Column, Rows, Sp, Uid};
 use std::alloc::{AllocError, Global};

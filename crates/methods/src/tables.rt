@@ -124,10 +124,6 @@ pub(crate) fn get_acl(
             let outcome = names_outcome(alloc, acl.as_slice())?;
             Ok(outcome)
         }
-        None => Ok(refused(
-            alloc,
-            status::INVALID_PARAMETER,
-            Rule::NoAccessLine,
-        )),
+        None => Ok(refused(alloc, status::INVALID_PARAMETER, Rule::NoAccessLine)),
     }
 }

@@ -61,10 +61,7 @@ static OPAL_MBR_CONTROL: [Typed; 3] = [
 
 static TPER_INFO: [Typed; 1] = [(Column::PROGRAMMATIC_RESET_ENABLE, ColumnType::Flag)];
 
-static DATA_REMOVAL: [Typed; 1] = [(
-    Column::ACTIVE_DATA_REMOVAL_MECHANISM,
-    ColumnType::Mechanism,
-)];
+static DATA_REMOVAL: [Typed; 1] = [(Column::ACTIVE_DATA_REMOVAL_MECHANISM, ColumnType::Mechanism)];
 
 /// Those of every profile but `Opal`.
 fn field_set_types(kind: Option<Kind>) -> &'static [Typed]
