@@ -12,7 +12,7 @@ use Rattle.sp_cells.specs.declared.names.Sp.TheVariants.{Admin, Locking}
 use Rattle.sp_cells.specs.declared.names.Uid.{Uid}
 use Rattle.sp_cells.specs.declared.values.ColumnType.{ColumnType}
 use Rattle.sp_cells.specs.declared.values.ColumnType.TheVariants as types
-use Rattle.sp_cells.specs.Limits.{most_pin_bytes, most_elements, cryptographic_erase}
+use Rattle.sp_cells.specs.Limits.{most_pin_bytes, most_common_name_bytes, most_short_elements, most_elements, cryptographic_erase}
 use Rattle.sp_cells.specs.Names.{col}
 use Rattle.sp_cells.specs.Values.{type_at}
 use Rattle.tcg_tokens.specs.Tree.{Tree}
@@ -29,11 +29,20 @@ use Rattle.reasons.specs.Reasons.{worded_number}
 use Rattle.reasons.specs.Rulings.{because_text}
 use Rattle.reasons.specs.Sent.{SentCall, call_sent, session_of_frame}
 
+-- so many bytes, and so many elements
+abbrev pub bytes_words : (most : ℕ) → List ℕ
+bytes_words most =
+    worded_number (codes " is no byte string of at most ") most ++ codes " bytes"
+
+abbrev pub expression_words : (most : ℕ) → List ℕ
+expression_words most =
+    worded_number (codes " is no expression of at most ") most ++ codes " elements"
+
 -- what a value is not, which a column of this type does not take
 abbrev pub unlike_words : ColumnType → List ℕ
 unlike_words types.Name = codes " is no byte string"
-unlike_words types.Secret =
-    worded_number (codes " is no byte string of at most ") most_pin_bytes ++ codes " bytes"
+unlike_words types.CommonName = bytes_words most_common_name_bytes
+unlike_words types.Secret = bytes_words most_pin_bytes
 unlike_words types.Object = codes " is no name of eight bytes"
 unlike_words types.Number = codes " is no number"
 unlike_words types.Flag = codes " is neither 0 nor 1"
@@ -41,9 +50,12 @@ unlike_words types.Mechanism =
     worded_number (codes " is not ") cryptographic_erase ++ codes ", the cryptographic erase"
 unlike_words types.Resets =
     codes " is no list of kinds of reset: 0, 1 and 3, each at most once"
-unlike_words types.Expression =
-    worded_number (codes " is no expression of at most ") most_elements ++ codes " elements"
+unlike_words types.PowerCycleResets =
+    codes " is no list of kinds of reset: 0, with or without 1 and 3, each at most once"
+unlike_words types.Expression = expression_words most_short_elements
+unlike_words types.LongExpression = expression_words most_elements
 unlike_words types.Columns = codes " is no list of columns"
+unlike_words types.OneName = codes " is no list of one byte string"
 
 -- a column by its names; one that has no type among those of Set is set by no Set
 abbrev pub cell_words : Uid → Column → List ℕ

@@ -8,7 +8,7 @@ ghost use Rattle.methods.specs.Kinds.{kind_of as kind_of_object};
 ghost use Rattle.methods.specs.Settings.{cell_for};
 ghost use Rattle.reasons.specs.Lives.{life_on};
 ghost use Rattle.reasons.specs.Sent.{call_seen};
-ghost use Rattle.reasons.specs.Untaken.{unlike_words, cell_words, untaken_words, first_untaken, untaken_line, untaken_by, values_text, set_text, sp_of_session, untaken_on, untaken_text};
+ghost use Rattle.reasons.specs.Untaken.{bytes_words, expression_words, unlike_words, cell_words, untaken_words, first_untaken, untaken_line, untaken_by, values_text, set_text, sp_of_session, untaken_on, untaken_text};
 
 use crate::asked::{ask_in, is_its_session};
 use crate::explained::{SessionChronicle, append_number};
@@ -17,23 +17,20 @@ use crate::rulings::append_because;
 use crate::sent::{call_sent, session_named};
 use basics::Profile;
 use methods::{Kind, kind_of};
-use sp_cells::limits::{CRYPTOGRAPHIC_ERASE, MOST_ELEMENTS, MOST_PIN_BYTES};
+use sp_cells::limits::{
+    CRYPTOGRAPHIC_ERASE, MOST_COMMON_NAME_BYTES, MOST_ELEMENTS, MOST_PIN_BYTES, MOST_SHORT_ELEMENTS,
+};
 use sp_cells::values::ColumnType;
 use sp_cells::{Column, Sp, Uid};
 use std::alloc::{AllocError, Global};
 use tcg_calls::call_shapes::{Ask, Assignments, cell_of, uid_of};
 use tcg_tokens::{Call, Value};
 
-/// Appends how many bytes a PIN has at most, behind what has no more.
-fn append_secret(alloc: Global, words: &mut Vec<u8>) -> Result<(), AllocError>
-    ensures { OnOk result (words.new.items ≡ words.old.items ++ unlike_words ColumnType.Secret) }
+/// Appends how many bytes there are at most, behind what has no more.
+fn append_bytes(alloc: Global, words: &mut Vec<u8>, most: usize) -> Result<(), AllocError>
+    ensures { OnOk result (words.new.items ≡ words.old.items ++ bytes_words most) }
 {
-    append_number(
-        alloc,
-        words,
-        b" is no byte string of at most ",
-        MOST_PIN_BYTES as u64,
-    )?;
+    append_number(alloc, words, b" is no byte string of at most ", most as u64)?;
     words.extend_from_slice(b" bytes")?;
     Ok(())
 }
@@ -49,16 +46,10 @@ fn append_mechanism(alloc: Global, words: &mut Vec<u8>) -> Result<(), AllocError
 }
 
 /// Appends how many elements an expression has at most.
-fn append_expression(alloc: Global, words: &mut Vec<u8>) -> Result<(), AllocError>
-    ensures { OnOk result (words.new.items
-        ≡ words.old.items ++ unlike_words ColumnType.Expression) }
+fn append_expression(alloc: Global, words: &mut Vec<u8>, most: usize) -> Result<(), AllocError>
+    ensures { OnOk result (words.new.items ≡ words.old.items ++ expression_words most) }
 {
-    append_number(
-        alloc,
-        words,
-        b" is no expression of at most ",
-        MOST_ELEMENTS as u64,
-    )?;
+    append_number(alloc, words, b" is no expression of at most ", most as u64)?;
     words.extend_from_slice(b" elements")?;
     Ok(())
 }
@@ -68,9 +59,11 @@ fn append_unlike(alloc: Global, words: &mut Vec<u8>, kind: ColumnType) -> Result
     ensures { OnOk result (words.new.items ≡ words.old.items ++ unlike_words kind) }
 {
     match kind {
-        ColumnType::Secret => append_secret(alloc, words)?,
+        ColumnType::CommonName => append_bytes(alloc, words, MOST_COMMON_NAME_BYTES)?,
+        ColumnType::Secret => append_bytes(alloc, words, MOST_PIN_BYTES)?,
         ColumnType::Mechanism => append_mechanism(alloc, words)?,
-        ColumnType::Expression => append_expression(alloc, words)?,
+        ColumnType::Expression => append_expression(alloc, words, MOST_SHORT_ELEMENTS)?,
+        ColumnType::LongExpression => append_expression(alloc, words, MOST_ELEMENTS)?,
         ColumnType::Name => words.extend_from_slice(b" is no byte string")?,
         ColumnType::Object => words.extend_from_slice(b" is no name of eight bytes")?,
         ColumnType::Number => words.extend_from_slice(b" is no number")?,
@@ -78,7 +71,11 @@ fn append_unlike(alloc: Global, words: &mut Vec<u8>, kind: ColumnType) -> Result
         ColumnType::Resets => words.extend_from_slice(
             b" is no list of kinds of reset: 0, 1 and 3, each at most once",
         )?,
+        ColumnType::PowerCycleResets => words.extend_from_slice(
+            b" is no list of kinds of reset: 0, with or without 1 and 3, each at most once",
+        )?,
         ColumnType::Columns => words.extend_from_slice(b" is no list of columns")?,
+        ColumnType::OneName => words.extend_from_slice(b" is no list of one byte string")?,
     }
     Ok(())
 }

@@ -1,11 +1,10 @@
 use Rattle.std.proofs.Common.{List, ℕ, ◌++◌, ◌∙◌, ap, append_assoc}
 use Rattle.std.specs.Prelude.{codes}
-use Rattle.sp_cells.specs.Limits.{most_pin_bytes}
 use Rattle.reasons.specs.Reasons.{worded_number}
-use Rattle.reasons.proofs.untaken.append_secret.Goals as goal
+use Rattle.reasons.proofs.untaken.append_bytes.Goals as goal
 
 pub returns : goal.returns
 returns c =
     c.in_ok-extend_from_slice.ensures.items
     ∙ ap (λ (xs : List ℕ). xs ++ codes " bytes") c.in_ok-append_number.ensures
-    ∙ append_assoc c.args.words.now.items (worded_number (codes " is no byte string of at most ") most_pin_bytes) (codes " bytes")
+    ∙ append_assoc c.args.words.now.items (worded_number (codes " is no byte string of at most ") c.args.most) (codes " bytes")
