@@ -14,7 +14,8 @@ use Rattle.sp_cells.specs.Names.{session_manager, start_session}
 use Rattle.audit.specs.declared.rules.rule.Rule.{Rule}
 use Rattle.audit.specs.declared.rules.rule.Rule.TheVariants as rules
 use Rattle.tcg_tokens.specs.Tree.{Tree}
-use Rattle.tcg_calls.specs.CellValues.{number_in, uid_in}
+use Rattle.tcg_calls.specs.Asks.{uid_in}
+use Rattle.tcg_calls.specs.CellValues.{number_in}
 use Rattle.sessions.specs.Starts.{is_host, opening_of}
 use Rattle.reasons.specs.declared.explained.onset.Counted.{Counted}
 use Rattle.reasons.specs.declared.explained.onset.Source.{Source}

@@ -10,7 +10,7 @@ use Rattle.tcg_tokens.specs.Tree.{Tree, tree, trees}
 use Rattle.tcg_tokens.specs.declared.error.TokenError.{TokenError}
 use Rattle.tcg_tokens.specs.declared.value.Call.{Call}
 use Rattle.tcg_calls.specs.Asks.{uid_of}
-use Rattle.tcg_calls.specs.CellValues.{uid_in}
+use Rattle.tcg_calls.specs.Asks.{uid_in}
 use Rattle.tcg_calls.specs.Named.{values_of}
 use Rattle.sessions.specs.Starts.{sp_named}
 

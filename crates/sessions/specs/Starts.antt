@@ -19,7 +19,8 @@ use Rattle.audit.specs.declared.rules.rule.Rule.{Rule}
 use Rattle.audit.specs.declared.rules.rule.Rule.TheVariants.{Shape, UnknownSp, NotInUse, SpBusy, NoNumber}
 use Rattle.tcg_calls.specs.Parameters.{host_challenge_parameter, host_signing_authority_parameter}
 use Rattle.tcg_calls.specs.Named.{options, value_of, bytes_or_empty}
-use Rattle.tcg_calls.specs.CellValues.{number_in, uid_in}
+use Rattle.tcg_calls.specs.Asks.{uid_in}
+use Rattle.tcg_calls.specs.CellValues.{number_in}
 use Rattle.tcg_calls.specs.Statuses.{success, not_authorized, sp_busy, no_sessions_available, invalid_parameter, authority_locked_out}
 use Rattle.sessions.specs.declared.opening.Opening.{Opening}
 use Rattle.sessions.specs.declared.opening.StartVerdict.{StartVerdict}

@@ -49,7 +49,7 @@ table_singles =
     ∷ (table_uid secret_protect_table, codes "SecretProtect")
     ∷ (table_uid template_table, codes "Template")
     ∷ (table_uid sp_table, codes "SP")
-    ∷ (table_uid locking_table, codes "Locking")
+    ∷ (table_uid locking_table, codes "Locking_Table")
     ∷ (table_uid key_table, codes "K_AES_256")
     ∷ []
 

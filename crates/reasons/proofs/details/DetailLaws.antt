@@ -11,7 +11,8 @@ use Rattle.sp_cells.specs.declared.names.Uid.{Uid}
 use Rattle.tcg_tokens.specs.Tree.{Tree}
 use Rattle.tcg_calls.specs.Parameters.{host_challenge_parameter, host_signing_authority_parameter}
 use Rattle.tcg_calls.specs.Named.{options}
-use Rattle.tcg_calls.specs.CellValues.{number_in, uid_in}
+use Rattle.tcg_calls.specs.Asks.{uid_in}
+use Rattle.tcg_calls.specs.CellValues.{number_in}
 use Rattle.sessions.specs.Starts.{is_host, opening_named, opening_from, opening_of}
 use Rattle.reasons.specs.declared.details.StartFault.{StartFault}
 use Rattle.reasons.specs.declared.details.StartFault.TheVariants as faults

@@ -32,51 +32,57 @@ const OBJECTS: [Named; 18] = [
     (Uid::SECRET_PROTECT_KEY, "SecretProtect_K_AES_256_Key"),
 ];
 
-/// The names of a table's rows are as many; the table as an object has the first, and so has the Table table's number.
-const OF_TABLE: u64 = 0x1_0000_0000;
+/// A table has so many names: the first is its own, the others are those of its rows.
+const NAMES_OF_TABLE: u64 = 0x1_0000_0000;
+
+/// The name of the Table table.
+const TABLE_TABLE: u64 = tables::TABLE * NAMES_OF_TABLE;
 
 /// The tables that have more than one row.
 const TABLES: [Named; 12] = [
-    (Uid(tables::TABLE * OF_TABLE), "Table"),
-    (Uid(tables::SP_TEMPLATES * OF_TABLE), "SPTemplates"),
-    (Uid(tables::METHOD_ID * OF_TABLE), "MethodID"),
+    (Uid(tables::TABLE * NAMES_OF_TABLE), "Table"),
+    (Uid(tables::SP_TEMPLATES * NAMES_OF_TABLE), "SPTemplates"),
+    (Uid(tables::METHOD_ID * NAMES_OF_TABLE), "MethodID"),
     (Uid::ACCESS_CONTROL, "AccessControl"),
-    (Uid(tables::ACE * OF_TABLE), "ACE"),
-    (Uid(tables::AUTHORITY * OF_TABLE), "Authority"),
-    (Uid(tables::C_PIN * OF_TABLE), "C_PIN"),
-    (Uid(tables::SECRET_PROTECT * OF_TABLE), "SecretProtect"),
-    (Uid(tables::TEMPLATE * OF_TABLE), "Template"),
-    (Uid(tables::SP * OF_TABLE), "SP"),
-    (Uid(tables::LOCKING * OF_TABLE), "Locking"),
-    (Uid(tables::K_AES_256 * OF_TABLE), "K_AES_256"),
+    (Uid(tables::ACE * NAMES_OF_TABLE), "ACE"),
+    (Uid(tables::AUTHORITY * NAMES_OF_TABLE), "Authority"),
+    (Uid(tables::C_PIN * NAMES_OF_TABLE), "C_PIN"),
+    (
+        Uid(tables::SECRET_PROTECT * NAMES_OF_TABLE),
+        "SecretProtect",
+    ),
+    (Uid(tables::TEMPLATE * NAMES_OF_TABLE), "Template"),
+    (Uid(tables::SP * NAMES_OF_TABLE), "SP"),
+    (Uid(tables::LOCKING * NAMES_OF_TABLE), "Locking_Table"),
+    (Uid(tables::K_AES_256 * NAMES_OF_TABLE), "K_AES_256"),
 ];
 
 /// The rows of the Table table, but for those of the byte tables.
 const TABLE_ROWS: [Named; 17] = [
-    (Uid(OF_TABLE + tables::TABLE), "Table_Table"),
-    (Uid(OF_TABLE + tables::SP_INFO), "Table_SPInfo"),
-    (Uid(OF_TABLE + tables::SP_TEMPLATES), "Table_SPTemplates"),
-    (Uid(OF_TABLE + tables::METHOD_ID), "Table_MethodID"),
+    (Uid(TABLE_TABLE + tables::TABLE), "Table_Table"),
+    (Uid(TABLE_TABLE + tables::SP_INFO), "Table_SPInfo"),
+    (Uid(TABLE_TABLE + tables::SP_TEMPLATES), "Table_SPTemplates"),
+    (Uid(TABLE_TABLE + tables::METHOD_ID), "Table_MethodID"),
     (
-        Uid(OF_TABLE + tables::ACCESS_CONTROL),
+        Uid(TABLE_TABLE + tables::ACCESS_CONTROL),
         "Table_AccessControl",
     ),
-    (Uid(OF_TABLE + tables::ACE), "Table_ACE"),
-    (Uid(OF_TABLE + tables::AUTHORITY), "Table_Authority"),
-    (Uid(OF_TABLE + tables::C_PIN), "Table_C_PIN"),
+    (Uid(TABLE_TABLE + tables::ACE), "Table_ACE"),
+    (Uid(TABLE_TABLE + tables::AUTHORITY), "Table_Authority"),
+    (Uid(TABLE_TABLE + tables::C_PIN), "Table_C_PIN"),
     (
-        Uid(OF_TABLE + tables::SECRET_PROTECT),
+        Uid(TABLE_TABLE + tables::SECRET_PROTECT),
         "Table_SecretProtect",
     ),
-    (Uid(OF_TABLE + tables::TPER_INFO), "Table_TPerInfo"),
-    (Uid(OF_TABLE + tables::TEMPLATE), "Table_Template"),
-    (Uid(OF_TABLE + tables::SP), "Table_SP"),
-    (Uid(OF_TABLE + tables::LOCKING_INFO), "Table_LockingInfo"),
-    (Uid(OF_TABLE + tables::LOCKING), "Table_Locking"),
-    (Uid(OF_TABLE + tables::MBR_CONTROL), "Table_MBRControl"),
-    (Uid(OF_TABLE + tables::K_AES_256), "Table_K_AES_256"),
+    (Uid(TABLE_TABLE + tables::TPER_INFO), "Table_TPerInfo"),
+    (Uid(TABLE_TABLE + tables::TEMPLATE), "Table_Template"),
+    (Uid(TABLE_TABLE + tables::SP), "Table_SP"),
+    (Uid(TABLE_TABLE + tables::LOCKING_INFO), "Table_LockingInfo"),
+    (Uid(TABLE_TABLE + tables::LOCKING), "Table_Locking"),
+    (Uid(TABLE_TABLE + tables::MBR_CONTROL), "Table_MBRControl"),
+    (Uid(TABLE_TABLE + tables::K_AES_256), "Table_K_AES_256"),
     (
-        Uid(OF_TABLE + tables::DATA_REMOVAL),
+        Uid(TABLE_TABLE + tables::DATA_REMOVAL),
         "Table_DataRemovalMechanism",
     ),
 ];
