@@ -14,7 +14,15 @@ pub(crate) fn is_known(sp: Sp, authority: Uid) -> bool
     ensures { result ≡ is_known_to sp authority }
 {
     match sp {
-        Sp::Admin => matches!(authority, Uid::ANYBODY | Uid::SID | Uid::PSID),
+        Sp::Admin => matches!(
+            authority,
+            Uid::ANYBODY
+                | Uid::SID
+                | Uid::PSID
+                | Uid::ADMINS
+                | Uid::MAKERS
+                | Uid::ADMIN_SP_ADMIN
+        ),
         Sp::Locking => is_locking_authority(authority),
     }
 }

@@ -413,9 +413,9 @@ admin_tper_infos = row_items tper_info (new_tper_info tper_info)
 
 -- who may read the PIN row of SID but for its PIN: under Opal, that of the Admin SP's Admin1 too
 abbrev pub sid_get_aces : Profile → List Item
-sid_get_aces Base = ace_row ace_c_pin_sid_get_nopin (codes "C_PIN_SID_Get_NOPIN") sid but_pin
-sid_get_aces Field = ace_row ace_c_pin_sid_get_nopin (codes "C_PIN_SID_Get_NOPIN") sid but_pin
-sid_get_aces Opal = admins_or_row ace_c_pin_sid_get_nopin (codes "C_PIN_SID_Get_NOPIN") sid but_pin
+sid_get_aces profile =
+    if is_opal profile then admins_or_row ace_c_pin_sid_get_nopin (codes "C_PIN_SID_Get_NOPIN") sid
+    but_pin else ace_row ace_c_pin_sid_get_nopin (codes "C_PIN_SID_Get_NOPIN") sid but_pin
 
 -- ACEs
 unfoldable pub admin_aces : Profile → List Item

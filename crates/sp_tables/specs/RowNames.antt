@@ -1,6 +1,6 @@
 -- The names of the rows of a table of a new drive of the profile `Opal`, rising, for each table whose rows the method Next
 -- tells (Opal SSC 2.01, sections 4.2 and 4.3; Core 2.01, section 5.3.3.8).
-use Rattle.std.specs.Prelude.{◌==◌, ◌+◌, ◌<◌, ◌&&◌, ◌||◌, not, nat_lt, ℕ, zero, suc, Bool, true, List, [], ◌∷◌, ◌++◌, map, is_some, IsTrue, if◌then◌else◌}
+use Rattle.std.specs.Prelude.{◌==◌, ◌+◌, ◌&&◌, ◌||◌, not, nat_lt, ℕ, zero, suc, Bool, true, List, [], ◌∷◌, ◌++◌, map, is_some, IsTrue, if◌then◌else◌}
 use Rattle.std.specs.List.{list_all, list_any}
 use Rattle.sp_cells.specs.declared.names.TheConstants.{RANGES, USERS, ADMINS}
 use Rattle.sp_cells.specs.declared.names.Uid.{Uid}

@@ -9,6 +9,7 @@ ghost use Rattle.sp_cells.specs.Names.{table_table, sp_templates_table, method_i
 ghost use Rattle.sp_tables.specs.Factory.{admin_factory, locking_factory};
 ghost use Rattle.sp_tables.specs.RowNames.{numbered, family_name, names_in, listed_table, listed_tables, rows_of as rows_of_table, AreRows};
 
+use crate::sp_rows::TABLES;
 use sp_cells::names::tables;
 use sp_cells::{ADMINS, RANGES, Sp, USERS, Uid};
 use std::alloc::{AllocError, Global};
@@ -97,9 +98,6 @@ impl Names {
         Ok(())
     }
 }
-
-/// The names of the rows of the Table table begin here.
-const TABLES: u64 = tables::TABLE << 32;
 
 /// The row of a table in the Table table.
 macro_rules! table {

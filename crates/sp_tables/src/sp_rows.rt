@@ -16,9 +16,10 @@ mod new_rows;
 pub mod rows;
 pub mod runs;
 
+pub(crate) use constant_tables::TABLES;
 pub use constants::ConstantRow;
 pub use exchange::{exchange_all, new_cells};
-pub use factory::{new_halves, new_locking_sp};
+pub use factory::{laws_of_factory, new_halves, new_locking_sp};
 pub use halves::{FieldTables, SpTables};
 pub use rows::{
     AceRow, AuthorityRow, CPinRow, DataRemovalRow, LockingInfoRow, LockingRow, MbrControlRow,

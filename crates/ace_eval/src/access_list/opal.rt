@@ -33,8 +33,7 @@ fn own_row(sp: Sp, object: Uid, method: Uid) -> Option<ArrayVec<Uid, 4>>
     ensures { IsAnsweredByGrants (own_grants sp) sp object method result }
 {
     match (object, method) {
-        (Uid::THIS_SP, Uid::RANDOM)
-        | (Uid::ACCESS_CONTROL, Uid::GET_ACL)
+        (Uid::ACCESS_CONTROL, Uid::GET_ACL)
         | (Uid::SP_INFO | Uid::SP_TEMPLATE_BASE | Uid::SP_TEMPLATE_OWN, Uid::GET) => {
             Some(one(Uid::ACE_ANYBODY))
         }

@@ -1,5 +1,5 @@
 -- A column among the cells of one row.
-use Rattle.std.proofs.Common.{◌≡◌, ◌==◌, ◌+◌, ◌<◌, ◌≤◌, ℕ, zero, suc, Bool, true, false, List, [], ◌∷◌, cond, Option, None, Some, refl, sym, ◌∙◌, ap, arith, take, drop, length, get_or, set, drop-cons}
+use Rattle.std.proofs.Common.{◌≡◌, ◌==◌, ◌<◌, ◌≤◌, ℕ, zero, suc, Bool, true, false, List, [], ◌∷◌, cond, Option, None, Some, refl, sym, ◌∙◌, ap, arith, take, drop, length, get_or, set, drop-cons}
 use Rattle.std.proofs.Math.Nat.{not-suc-le-zero}
 use Rattle.sp_cells.specs.declared.names.Column.{Column}
 use Rattle.sp_cells.specs.declared.cells.Cell.{Cell}

@@ -12,10 +12,13 @@ use sp_cells::names::tables;
 use sp_cells::{ADMINS, Column, ResetTypes, USERS, Uid};
 
 /// The names of rows of the Table table begin here.
-const TABLES: u64 = tables::TABLE << 32;
+pub(crate) const TABLES: u64 = tables::TABLE << 32;
 
 /// What Kind is of a table of objects.
 const OBJECT_TABLE: u64 = 1;
+
+/// The column Key of K_AES_256.
+const KEY: u64 = 3;
 
 /// The further columns of an authority.
 const OF_AUTHORITY: [(Column, Constant); 9] = [
@@ -205,7 +208,7 @@ static LOCKING_CONSTANTS: [Entry<Constants>; 32] = [
     row!(
         Uid::SECRET_PROTECT_KEY;
         PROTECTED_TABLE: Constant::Uid(Uid(TABLES + tables::K_AES_256)),
-        COLUMN_NUMBER: Constant::Number(3),
+        COLUMN_NUMBER: Constant::Number(KEY),
         PROTECT_MECHANISMS: Constant::Resets(ResetTypes {
             power_cycle: false,
             hardware: true,

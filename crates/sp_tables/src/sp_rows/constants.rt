@@ -9,9 +9,9 @@ ghost use Rattle.sp_tables.specs.Entries.{constant_cell, constant_cells};
 
 use crate::sp_rows::adding::push_one;
 use crate::sp_rows::entries::{Adds, Numbered, push_family};
+use crate::sp_rows::families::AUTHORITIES;
 use crate::sp_rows::new_rows::{no_text, text};
 use crate::sp_rows::{Row, Run};
-use sp_cells::names::tables;
 use sp_cells::{Bytes, Cell, Column, RANGES, ResetTypes, Uid};
 use std::alloc::{AllocError, Global};
 use std::mem;
@@ -130,9 +130,6 @@ pub(crate) enum Constants {
     /// The keys of the numbered ranges.
     OfKeys,
 }
-
-/// The names of authorities begin here.
-const AUTHORITIES: u64 = tables::AUTHORITY << 32;
 
 impl Numbered<ConstantRow> for AuthorityCells {
     ghost use Rattle.sp_cells.specs.Names.{authority_table};

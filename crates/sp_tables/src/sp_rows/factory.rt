@@ -1,10 +1,12 @@
 //! The tables of a new drive, row by row.
 
-ghost use Rattle.std.specs.Prelude.{◌≡◌, ◌+◌, ◌<◌, ◌≤◌, ◌^◌, [], ◌∷◌, ◌++◌, IfOk, OnOk, string_bytes, map};
+ghost use Rattle.std.specs.Prelude.{◌≡◌, List, ℕ, ◌+◌, ◌<◌, ◌≤◌, ◌^◌, [], ◌∷◌, ◌++◌, IfOk, OnOk, string_bytes, map};
 ghost use Rattle.std.specs.List.{flat_map};
 ghost use Rattle.sp_tables.specs.Halves.{half_items, field_items};
 ghost use Rattle.sp_tables.specs.Columns.{sp_columns, authority_columns, c_pin_columns, locking_columns, mbr_control_columns, tper_info_columns, ace_columns};
-ghost use Rattle.sp_tables.specs.Factory.{HasRows, AddsRows, in_field, in_opal, admin_sps, admin_authorities, label_authorities, admin_pins, label_pins, admin_tper_infos, admin_aces, label_aces, removal_aces, data_removals, locking_authorities, locking_pins, locking_ranges, locking_mbr_controls, locking_aces, range_keys, locking_infos, byte_tables, opal_authorities, opal_pins, opal_admin_aces, admin_constants, locking_constants, admin_factory, locking_factory};
+ghost use Rattle.sp_tables.specs.Factory.{HasRows, AddsRows, in_field, in_opal, admin_sps, admin_authorities, label_authorities, admin_pins, label_pins, admin_tper_infos, admin_aces, label_aces, removal_aces, data_removals, locking_authorities, locking_pins, locking_ranges, locking_mbr_controls, locking_aces, range_keys, locking_infos, byte_tables, opal_authorities, opal_pins, opal_admin_aces, admin_constants, locking_constants, authority_aces, pin_aces, range_aces, mbr_aces, gen_key_aces, datastore_aces, admin_factory, locking_factory};
+ghost use Rattle.basics.specs.declared.profile.Profile.TheVariants.{Base, Field};
+ghost use Rattle.sp_cells.specs.declared.byte_tables.TableSizes.{TableSizes};
 ghost use Rattle.sp_tables.specs.Entries.{entry_items};
 ghost use Rattle.sp_cells.specs.Config.{sizes_in};
 ghost use Rattle.sp_cells.specs.Limits.{most_mbr_sectors};
@@ -310,3 +312,23 @@ pub fn new_halves(alloc: Global, config: &DriveConfig) -> Result<(SpTables, SpTa
     let locking = new_locking_sp(alloc, config)?;
     Ok((admin, locking))
 }
+
+/// A new drive of `Base`, and one of `Field`, has no row of `Opal` alone.
+pub fn laws_of_factory()
+    ensures base { (msid psid : List ℕ) → admin_factory Base msid psid
+        ≡ admin_sps ++ (admin_authorities
+        ++ (admin_pins msid ++ (admin_tper_infos ++ admin_aces Base))) }
+    ensures base_locking { (sizes : TableSizes) → locking_factory Base sizes
+        ≡ locking_authorities ++ (locking_pins ++ (locking_ranges ++ (locking_mbr_controls
+        ++ (authority_aces ++ pin_aces ++ range_aces Base ++ mbr_aces)))) }
+    ensures field { (msid psid : List ℕ) → admin_factory Field msid psid
+        ≡ admin_sps ++ ((admin_authorities ++ label_authorities)
+        ++ ((admin_pins msid ++ label_pins psid) ++ (admin_tper_infos
+        ++ ((admin_aces Field ++ label_aces ++ removal_aces) ++ data_removals)))) }
+    ensures field_locking { (sizes : TableSizes) → locking_factory Field sizes
+        ≡ locking_authorities ++ (locking_pins ++ (locking_ranges ++ (locking_mbr_controls
+        ++ ((authority_aces ++ pin_aces ++ range_aces Field ++ mbr_aces
+        ++ gen_key_aces ++ datastore_aces)
+        ++ (range_keys ++ (locking_infos ++ byte_tables sizes)))))) }
+    ensures same_aces { admin_aces Base ≡ admin_aces Field }
+{}

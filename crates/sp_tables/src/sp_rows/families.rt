@@ -18,7 +18,7 @@ use sp_cells::{ADMINS, USERS, Uid};
 use std::alloc::{AllocError, Global};
 
 /// The names of authorities begin here.
-const AUTHORITIES: u64 = tables::AUTHORITY << 32;
+pub(crate) const AUTHORITIES: u64 = tables::AUTHORITY << 32;
 
 /// The names of C_PIN rows begin here.
 const PINS: u64 = tables::C_PIN << 32;

@@ -1,6 +1,6 @@
-use Rattle.std.proofs.Common.{◌≡◌, ◌==◌, ◌<◌, ◌≤◌, ◌∙◌, true, false, ap, sym, arith, length, get_or, set, Some, add-one}
+use Rattle.std.proofs.Common.{◌≡◌, ◌==◌, ◌<◌, ◌≤◌, ◌∙◌, true, ap, sym, arith, length, get_or, set, Some, add-one}
 use Rattle.std.specs.Prelude.{is_some}
-use Rattle.sp_tables.specs.Items.{column_at, with_column}
+use Rattle.sp_tables.specs.Items.{column_at}
 use Rattle.sp_tables.proofs.sp_rows.ColumnLemmas.{column_at-found, column_at-more, with_column-found, with_column-beyond, same-item}
 use Rattle.sp_tables.proofs.sp_rows.constants.swap_among.Goals as goal
 

@@ -1,4 +1,4 @@
-use Rattle.std.proofs.Common.{◌≡◌, ◌++◌, ◌∙◌, true, not, cond, [], ap, sym, arith}
+use Rattle.std.proofs.Common.{◌≡◌, ◌++◌, ◌∙◌, true, cond, [], ap, sym, arith}
 use Rattle.std.specs.List.{flat_map}
 use Rattle.sp_tables.specs.Runs.{run_items}
 use Rattle.sp_tables.specs.Columns.{c_pin_columns}
