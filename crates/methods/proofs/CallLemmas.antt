@@ -37,6 +37,10 @@ tells-as x y out is h = subst (λ j. Tells j out) is h
 pub fulfils-as : (x y : Judgement) (session : SessionId) (out : Outcome) (s t : Stored) (l m : Live) → x ≡ y → Fulfils (outcome_in s session x) out s t l m → Fulfils (outcome_in s session y) out s t l m
 fulfils-as x y session out s t l m is h = subst (λ j. Fulfils (outcome_in s session j) out s t l m) is h
 
+pub told-in : (j : Judgement) (session : SessionId) (r : Result Outcome MethodFault) (s : Stored) (l : Live) → IfOk r (Tells j) → IfOk r (λ out. Fulfils (outcome_in s session j) out s s l l)
+told-in j session (Ok out) s l h = h (rows_in_force s) session.sp s l
+told-in j session (Err e) s l h = tt
+
 pub judged-as : (x y : Judgement) (session : SessionId) (r : Result Outcome MethodFault) (s t : Stored) (l m : Live) → x ≡ y
     → IfOk r (λ out. Fulfils (outcome_in s session x) out s t l m) → IfOk r (λ out. Fulfils (outcome_in s session y) out s t l m)
 judged-as x y session r s t l m is h = subst (λ j. IfOk r (λ out. Fulfils (outcome_in s session j) out s t l m)) is h
