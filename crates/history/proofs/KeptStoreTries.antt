@@ -11,7 +11,7 @@ use Rattle.sp_cells.specs.declared.names.Column.{Column}
 use Rattle.sp_cells.specs.declared.cells.Cell.{Cell}
 use Rattle.sp_cells.specs.declared.cells.Cell.TheVariants.{Number}
 use Rattle.sp_cells.specs.Flat.{LookUp}
-use Rattle.sp_cells.specs.Names.{uid, c_pin_sid, c_pin_msid, c_pin_psid, admin_pin_uid, user_pin_uid, mbr_control}
+use Rattle.sp_cells.specs.Names.{uid, c_pin_sid, c_pin_msid, c_pin_psid, c_pin_admin_sp_admin, admin_pin_uid, user_pin_uid, mbr_control}
 use Rattle.sp_cells.specs.ColumnNames.{tries_column, lock_on_reset_column, mbr_done_column, mbr_done_on_reset_column}
 use Rattle.sp_cells.specs.Ranges.{number, cell_number}
 use Rattle.sp_tables.specs.Items.{Item, item_at, with_item}
@@ -107,15 +107,27 @@ abbrev cleared-on : Sp → List Item → List Item
 cleared-on Admin is = admin_cleared is
 cleared-on Locking is = locking_cleared is
 
-or-apart : (a b c : Bool) → ((a || b) || c) ≡ (a || b || c)
-or-apart true b c = refl
-or-apart false b c = refl
+or-apart : (a b c d : Bool) → (((a || b) || c) || d) ≡ (a || b || c || d)
+or-apart true b c d = refl
+or-apart false true c d = refl
+or-apart false false c d = refl
+
+abbrev sid_cleared : List Item → List Item
+sid_cleared is = with_item is c_pin_sid tries_column (Number 0)
+
+abbrev msid_cleared : List Item → List Item
+msid_cleared is = with_item (sid_cleared is) c_pin_msid tries_column (Number 0)
+
+abbrev psid_cleared : List Item → List Item
+psid_cleared is = with_item (msid_cleared is) c_pin_psid tries_column (Number 0)
 
 cleared-at : (sp : Sp) (is : List Item) (o : Uid) (c : Column) → (tries_column.0 == c.0) ≡ true → item_at (cleared-on sp is) o c ≡ cond (is_cleared sp o) (option_map (λ _. Number 0) (item_at is o c)) (item_at is o c)
 cleared-at Admin is o c here =
-    cleared-next is (with_item (with_item is c_pin_sid tries_column (Number 0)) c_pin_msid tries_column (Number 0)) c_pin_psid o c ((c_pin_sid.0 == o.0) || (c_pin_msid.0 == o.0)) here
-    (cleared-next is (with_item is c_pin_sid tries_column (Number 0)) c_pin_msid o c (c_pin_sid.0 == o.0) here (cleared-row is c_pin_sid o c here))
-    ∙ ap (λ b. cond b (option_map (λ _. Number 0) (item_at is o c)) (item_at is o c)) (or-apart (c_pin_sid.0 == o.0) (c_pin_msid.0 == o.0) (c_pin_psid.0 == o.0))
+    let first = cleared-row is c_pin_sid o c here in
+    let second = cleared-next is (sid_cleared is) c_pin_msid o c (c_pin_sid.0 == o.0) here first in
+    let third = cleared-next is (msid_cleared is) c_pin_psid o c ((c_pin_sid.0 == o.0) || (c_pin_msid.0 == o.0)) here second in
+    cleared-next is (psid_cleared is) c_pin_admin_sp_admin o c (((c_pin_sid.0 == o.0) || (c_pin_msid.0 == o.0)) || (c_pin_psid.0 == o.0)) here third
+    ∙ ap (λ b. cond b (option_map (λ _. Number 0) (item_at is o c)) (item_at is o c)) (or-apart (c_pin_sid.0 == o.0) (c_pin_msid.0 == o.0) (c_pin_psid.0 == o.0) (c_pin_admin_sp_admin.0 == o.0))
 cleared-at Locking is o c here =
     cleared-family user_pin_uid USERS (family_cleared admin_pin_uid ADMINS is) o c here
     ∙ ap (λ x. cond (in_family user_pin_uid USERS o) (option_map (λ _. Number 0) x) x) (cleared-family admin_pin_uid ADMINS is o c here)
@@ -138,7 +150,8 @@ family-none name zero is o c h = h
 family-none name (suc n) is o c h = row-none (family_cleared name n is) (name (suc n)) o c (family-none name n is o c h)
 
 cleared-none : (sp : Sp) (is : List Item) (o : Uid) (c : Column) → item_at is o c ≡ None → item_at (cleared-on sp is) o c ≡ None
-cleared-none Admin is o c h = row-none (with_item (with_item is c_pin_sid tries_column (Number 0)) c_pin_msid tries_column (Number 0)) c_pin_psid o c (row-none (with_item is c_pin_sid tries_column (Number 0)) c_pin_msid o c (row-none is c_pin_sid o c h))
+cleared-none Admin is o c h =
+    row-none (psid_cleared is) c_pin_admin_sp_admin o c (row-none (msid_cleared is) c_pin_psid o c (row-none (sid_cleared is) c_pin_msid o c (row-none is c_pin_sid o c h)))
 cleared-none Locking is o c h = family-none user_pin_uid USERS (family_cleared admin_pin_uid ADMINS is) o c (family-none admin_pin_uid ADMINS is o c h)
 
 pub clear-shows : (sp : Sp) (is : List Item) (counted new : Uid → ℕ) (rows : RowLook) → ShowTries is counted rows

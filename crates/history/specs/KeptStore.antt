@@ -7,7 +7,7 @@ use Rattle.sp_cells.specs.declared.names.Column.{Column}
 use Rattle.sp_cells.specs.declared.cells.Cell.TheVariants.{Number}
 use Rattle.sp_cells.specs.declared.names.TheConstants.{USERS, ADMINS, RANGES}
 use Rattle.sp_cells.specs.Config.{Config, table_sectors}
-use Rattle.sp_cells.specs.Names.{c_pin_sid, c_pin_msid, c_pin_psid, admin_pin_uid, user_pin_uid, mbr_control}
+use Rattle.sp_cells.specs.Names.{c_pin_sid, c_pin_msid, c_pin_psid, c_pin_admin_sp_admin, admin_pin_uid, user_pin_uid, mbr_control}
 use Rattle.sp_tables.specs.Items.{item_at}
 use Rattle.sp_tables.specs.Contents.{Contents, factory_contents, cells_look_up as cells_of}
 use Rattle.sp_tables.specs.Looks.{RowLook}
@@ -65,6 +65,7 @@ in_family name (suc n) object = in_family name n object || ((name (suc n)).0 == 
 abbrev pub is_cleared : Sp → Uid → Bool
 is_cleared Admin object =
     (c_pin_sid.0 == object.0) || (c_pin_msid.0 == object.0) || (c_pin_psid.0 == object.0)
+    || (c_pin_admin_sp_admin.0 == object.0)
 is_cleared Locking object =
     in_family admin_pin_uid ADMINS object || in_family user_pin_uid USERS object
 

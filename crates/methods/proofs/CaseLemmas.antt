@@ -15,7 +15,7 @@ use Rattle.sp_cells.specs.Config.{Config, sizes_in}
 use Rattle.sp_cells.specs.declared.byte_tables.TableSizes.{TableSizes}
 use Rattle.sp_cells.specs.Flat.{sp_eq}
 use Rattle.sp_tables.specs.Items.{Item, is_here, item_at}
-use Rattle.sp_tables.specs.Factory.{admin_factory, locking_factory, admin_sps, admin_authorities, label_authorities, locking_authorities, admin_pins, label_pins, locking_pins, locking_ranges, locking_mbr_controls, admin_aces, label_aces, removal_aces, data_removals, authority_aces, pin_aces, range_get_aces, range_aces, mbr_aces, gen_key_aces, range_keys, locking_infos, byte_tables, datastore_aces}
+use Rattle.sp_tables.specs.Factory.{admin_factory, locking_factory, admin_sps, admin_authorities, label_authorities, opal_authorities, opal_pins, opal_admin_aces, admin_constants, locking_authorities, admin_pins, label_pins, locking_pins, locking_ranges, locking_mbr_controls, admin_aces, label_aces, removal_aces, data_removals, authority_aces, pin_aces, range_get_aces, range_aces, mbr_aces, gen_key_aces, opal_locking_aces, locking_constants, range_keys, locking_infos, byte_tables, datastore_aces}
 use Rattle.ace_eval.specs.Access.{Grant, acl_in, this_sp_grants, owner_grants, label_grants, removal_grants, authority_grants, fixed_ace_gets, user_ace_grants, range_get_ace_grants, gen_key_ace_grants, read_locked_ace_grants, write_locked_ace_grants, done_ace_grants, pin_grants, range_get_grants, range_set_grants, mbr_grants, info_grants, datastore_grants, key_grants, access_list}
 use Rattle.tcg_tokens.specs.Tree.{Tree, number, bytes, list, named}
 use Rattle.tcg_calls.specs.declared.call_shapes.ask.Ask.{Ask}
@@ -412,7 +412,7 @@ items_new profile msid psid sizes Admin = admin_factory profile msid psid
 items_new profile msid psid sizes Locking = locking_factory profile sizes
 
 stand_new : (profile : Profile) (msid psid : List ℕ) (sizes : TableSizes) (sp : Sp) → list_all (stands profile sp) (items_new profile msid psid sizes sp) ≡ true
-unfolding items_new admin_sps admin_authorities label_authorities locking_authorities admin_pins label_pins locking_pins locking_ranges locking_mbr_controls admin_aces label_aces removal_aces data_removals authority_aces pin_aces range_get_aces range_aces mbr_aces gen_key_aces range_keys locking_infos byte_tables datastore_aces
+unfolding items_new admin_sps admin_authorities label_authorities opal_authorities opal_pins opal_admin_aces admin_constants locking_authorities admin_pins label_pins locking_pins locking_ranges locking_mbr_controls admin_aces label_aces removal_aces data_removals authority_aces pin_aces range_get_aces range_aces mbr_aces gen_key_aces opal_locking_aces locking_constants range_keys locking_infos byte_tables datastore_aces
 stand_new Base msid psid sizes Admin = refl
 stand_new Base msid psid sizes Locking = refl
 stand_new Field msid psid sizes Admin = refl
@@ -426,7 +426,7 @@ all_stand config Admin = stand_new config.profile config.msid config.psid (sizes
 all_stand config Locking = stand_new config.profile config.msid config.psid (sizes_in config) Locking
 
 whole_new : (profile : Profile) (msid psid : List ℕ) (sizes : TableSizes) (sp : Sp) → are_whole profile sp (items_new profile msid psid sizes sp) ≡ true
-unfolding items_new admin_sps admin_authorities label_authorities locking_authorities admin_pins label_pins locking_pins locking_ranges locking_mbr_controls admin_aces label_aces removal_aces data_removals authority_aces pin_aces range_get_aces range_aces mbr_aces gen_key_aces range_keys locking_infos byte_tables datastore_aces
+unfolding items_new admin_sps admin_authorities label_authorities opal_authorities opal_pins opal_admin_aces admin_constants locking_authorities admin_pins label_pins locking_pins locking_ranges locking_mbr_controls admin_aces label_aces removal_aces data_removals authority_aces pin_aces range_get_aces range_aces mbr_aces gen_key_aces opal_locking_aces locking_constants range_keys locking_infos byte_tables datastore_aces
 whole_new Base msid psid sizes Admin = refl
 whole_new Base msid psid sizes Locking = refl
 whole_new Field msid psid sizes Admin = refl
