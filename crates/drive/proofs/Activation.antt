@@ -6,7 +6,7 @@ use Rattle.std.proofs.lemmas.Bool.{le-leb}
 use Rattle.sp_cells.specs.Config.{Config}
 use Rattle.sp_cells.specs.Names.{locking_sp, admin_pin_uid}
 use Rattle.sp_cells.specs.declared.names.Sp.TheVariants.{Admin, Locking}
-use Rattle.sp_tables.specs.Factory.{admin_sps, admin_authorities, label_authorities, locking_authorities, admin_pins, label_pins, locking_pins, admin_aces, label_aces, removal_aces, data_removals, opal_authorities, opal_pins, opal_admin_aces, opal_locking_aces, admin_constants, locking_constants}
+use Rattle.sp_tables.specs.Factory.{admin_sps, admin_authorities, label_authorities, opal_authorities, opal_pins, opal_admin_aces, admin_constants, locking_authorities, admin_pins, label_pins, locking_pins, admin_aces, label_aces, removal_aces, data_removals}
 use Rattle.sp_tables.specs.Contents.{factory_contents}
 use Rattle.sp_tables.specs.Faults.{set_fault}
 use Rattle.history.specs.Opening.{life_cycle, pin, manufactured_contents, ActivationLaw}
@@ -21,7 +21,7 @@ of_parts profile sectors mbr_sectors msid serial model psid datastore = record {
 
 fits : (profile : Profile) (sectors mbr_sectors : ℕ) (msid serial model psid : List ℕ) (datastore : ℕ) → length msid ≤ 32
     → set_fault (manufactured_contents (of_parts profile sectors mbr_sectors msid serial model psid datastore)) Locking (admin_pin_uid 1) (pin msid) ≡ None
-unfolding admin_sps admin_authorities label_authorities locking_authorities admin_pins label_pins locking_pins admin_aces label_aces removal_aces data_removals
+unfolding admin_sps admin_authorities label_authorities opal_authorities opal_pins opal_admin_aces admin_constants locking_authorities admin_pins label_pins locking_pins admin_aces label_aces removal_aces data_removals
 fits Base sectors mbr_sectors msid serial model psid datastore short = rw (le-leb (length msid) 32 short) refl
 fits Field sectors mbr_sectors msid serial model psid datastore short = rw (le-leb (length msid) 32 short) refl
 fits Opal sectors mbr_sectors msid serial model psid datastore short = rw (le-leb (length msid) 32 short) refl

@@ -20,7 +20,7 @@ use Rattle.sp_cells.specs.Names.{locking_sp, range_uid, admin_pin_uid, mbr_contr
 use Rattle.sp_cells.specs.ColumnNames.{credential_column, lock_on_reset_column, mbr_done_column, mbr_done_on_reset_column}
 use Rattle.sp_cells.specs.Flat.{PlacedCell, sp_eq, cell_at}
 use Rattle.sp_tables.specs.Items.{Item, on, with_item, with_items}
-use Rattle.sp_tables.specs.Factory.{admin_factory, locking_factory, admin_sps, admin_authorities, label_authorities, admin_pins, label_pins, admin_aces, label_aces, removal_aces, data_removals, locking_authorities, locking_pins, locking_ranges, locking_mbr_controls, authority_aces, pin_aces, range_get_aces, range_aces, mbr_aces, gen_key_aces, range_keys, locking_infos, byte_tables, datastore_aces, opal_authorities, opal_pins, opal_admin_aces, opal_locking_aces, admin_constants, locking_constants}
+use Rattle.sp_tables.specs.Factory.{admin_factory, locking_factory, admin_sps, admin_authorities, label_authorities, opal_authorities, opal_pins, opal_admin_aces, admin_constants, admin_pins, label_pins, admin_aces, label_aces, removal_aces, data_removals, locking_authorities, locking_pins, locking_ranges, locking_mbr_controls, authority_aces, pin_aces, range_get_aces, range_aces, mbr_aces, gen_key_aces, opal_locking_aces, locking_constants, range_keys, locking_infos, byte_tables, datastore_aces}
 use Rattle.sp_tables.specs.AtReset.{has_kind}
 use Rattle.sp_tables.specs.Contents.{new_admin, new_locking, Contents, factory_contents, cells_look_up, flat}
 use Rattle.sp_tables.specs.Looks.{RowLook, put_in, puts_in}
@@ -138,13 +138,13 @@ items-few most items object [] h = h
 items-few most items object (p ∷ ps) h = items-few most (with_item items object p.0 p.1) object ps (item-few most items object p.0 p.1 h)
 
 admin-few : (p : Profile) (msid psid : List ℕ) → are_few (last_column p).0 (admin_factory p msid psid) ≡ true
-unfolding admin_sps admin_authorities label_authorities admin_pins label_pins admin_aces label_aces removal_aces data_removals
+unfolding admin_sps admin_authorities label_authorities opal_authorities opal_pins opal_admin_aces admin_constants admin_pins label_pins admin_aces label_aces removal_aces data_removals
 admin-few Base msid psid = refl
 admin-few Field msid psid = refl
 admin-few Opal msid psid = refl
 
 locking-few : (p : Profile) (sizes : TableSizes) → are_few (last_column p).0 (locking_factory p sizes) ≡ true
-unfolding locking_authorities locking_pins locking_ranges locking_mbr_controls authority_aces pin_aces range_get_aces range_aces mbr_aces gen_key_aces range_keys locking_infos byte_tables datastore_aces opal_authorities opal_pins opal_admin_aces opal_locking_aces admin_constants locking_constants
+unfolding locking_authorities locking_pins locking_ranges locking_mbr_controls authority_aces pin_aces range_get_aces range_aces mbr_aces gen_key_aces opal_locking_aces locking_constants range_keys locking_infos byte_tables datastore_aces
 locking-few Base sizes = refl
 locking-few Field sizes = refl
 locking-few Opal sizes = refl

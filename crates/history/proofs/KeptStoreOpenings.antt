@@ -15,7 +15,7 @@ use Rattle.sp_cells.specs.Config.{Config, sizes_in}
 use Rattle.sp_cells.specs.declared.byte_tables.TableSizes.{TableSizes}
 use Rattle.sp_cells.specs.Names.{admin_pin_uid, locking_sp, range_uid}
 use Rattle.sp_tables.specs.Items.{Item, item_at, with_items}
-use Rattle.sp_tables.specs.Factory.{admin_factory, locking_factory, admin_sps, admin_authorities, label_authorities, admin_pins, label_pins, admin_aces, label_aces, removal_aces, data_removals, locking_authorities, locking_pins, locking_ranges, locking_mbr_controls, authority_aces, pin_aces, range_get_aces, range_aces, mbr_aces, gen_key_aces, range_keys, locking_infos, byte_tables, datastore_aces, opal_authorities, opal_pins, opal_admin_aces, opal_locking_aces, admin_constants, locking_constants}
+use Rattle.sp_tables.specs.Factory.{admin_factory, locking_factory, admin_sps, admin_authorities, label_authorities, opal_authorities, opal_pins, opal_admin_aces, admin_constants, admin_pins, label_pins, admin_aces, label_aces, removal_aces, data_removals, locking_authorities, locking_pins, locking_ranges, locking_mbr_controls, authority_aces, pin_aces, range_get_aces, range_aces, mbr_aces, gen_key_aces, opal_locking_aces, locking_constants, range_keys, locking_infos, byte_tables, datastore_aces}
 use Rattle.sp_tables.specs.Contents.{new_admin, new_locking, Contents, items_of, cells_look_up}
 use Rattle.sp_tables.specs.Looks.{RowLook}
 use Rattle.sp_tables.specs.Tries.{is_tries}
@@ -98,19 +98,19 @@ abbrev locks_here : Uid → Column → Bool
 locks_here object column = has_locks object
 
 admin-counts : (p : Profile) (msid psid : List ℕ) → lack (counts_else Admin) (admin_factory p msid psid) ≡ true
-unfolding admin_sps admin_authorities label_authorities admin_pins label_pins admin_aces label_aces removal_aces data_removals in_family
+unfolding admin_sps admin_authorities label_authorities opal_authorities opal_pins opal_admin_aces admin_constants admin_pins label_pins admin_aces label_aces removal_aces data_removals in_family
 admin-counts Base msid psid = refl
 admin-counts Field msid psid = refl
 admin-counts Opal msid psid = refl
 
 locking-counts : (p : Profile) (sizes : TableSizes) → lack (counts_else Locking) (locking_factory p sizes) ≡ true
-unfolding locking_authorities locking_pins locking_ranges locking_mbr_controls authority_aces pin_aces range_get_aces range_aces mbr_aces gen_key_aces range_keys locking_infos byte_tables datastore_aces opal_authorities opal_pins opal_admin_aces opal_locking_aces admin_constants locking_constants in_family
+unfolding locking_authorities locking_pins locking_ranges locking_mbr_controls authority_aces pin_aces range_get_aces range_aces mbr_aces gen_key_aces opal_locking_aces locking_constants range_keys locking_infos byte_tables datastore_aces in_family
 locking-counts Base sizes = refl
 locking-counts Field sizes = refl
 locking-counts Opal sizes = refl
 
 admin-locks : (p : Profile) (msid psid : List ℕ) → lack locks_here (admin_factory p msid psid) ≡ true
-unfolding admin_sps admin_authorities label_authorities admin_pins label_pins admin_aces label_aces removal_aces data_removals is_range
+unfolding admin_sps admin_authorities label_authorities opal_authorities opal_pins opal_admin_aces admin_constants admin_pins label_pins admin_aces label_aces removal_aces data_removals is_range
 admin-locks Base msid psid = refl
 admin-locks Field msid psid = refl
 admin-locks Opal msid psid = refl

@@ -112,11 +112,21 @@ or-apart true b c d = refl
 or-apart false true c d = refl
 or-apart false false c d = refl
 
+abbrev sid_cleared : List Item → List Item
+sid_cleared is = with_item is c_pin_sid tries_column (Number 0)
+
+abbrev msid_cleared : List Item → List Item
+msid_cleared is = with_item (sid_cleared is) c_pin_msid tries_column (Number 0)
+
+abbrev psid_cleared : List Item → List Item
+psid_cleared is = with_item (msid_cleared is) c_pin_psid tries_column (Number 0)
+
 cleared-at : (sp : Sp) (is : List Item) (o : Uid) (c : Column) → (tries_column.0 == c.0) ≡ true → item_at (cleared-on sp is) o c ≡ cond (is_cleared sp o) (option_map (λ _. Number 0) (item_at is o c)) (item_at is o c)
 cleared-at Admin is o c here =
-    cleared-next is (with_item (with_item (with_item is c_pin_sid tries_column (Number 0)) c_pin_msid tries_column (Number 0)) c_pin_psid tries_column (Number 0)) c_pin_admin_sp_admin o c (((c_pin_sid.0 == o.0) || (c_pin_msid.0 == o.0)) || (c_pin_psid.0 == o.0)) here
-    (cleared-next is (with_item (with_item is c_pin_sid tries_column (Number 0)) c_pin_msid tries_column (Number 0)) c_pin_psid o c ((c_pin_sid.0 == o.0) || (c_pin_msid.0 == o.0)) here
-    (cleared-next is (with_item is c_pin_sid tries_column (Number 0)) c_pin_msid o c (c_pin_sid.0 == o.0) here (cleared-row is c_pin_sid o c here)))
+    let first = cleared-row is c_pin_sid o c here in
+    let second = cleared-next is (sid_cleared is) c_pin_msid o c (c_pin_sid.0 == o.0) here first in
+    let third = cleared-next is (msid_cleared is) c_pin_psid o c ((c_pin_sid.0 == o.0) || (c_pin_msid.0 == o.0)) here second in
+    cleared-next is (psid_cleared is) c_pin_admin_sp_admin o c (((c_pin_sid.0 == o.0) || (c_pin_msid.0 == o.0)) || (c_pin_psid.0 == o.0)) here third
     ∙ ap (λ b. cond b (option_map (λ _. Number 0) (item_at is o c)) (item_at is o c)) (or-apart (c_pin_sid.0 == o.0) (c_pin_msid.0 == o.0) (c_pin_psid.0 == o.0) (c_pin_admin_sp_admin.0 == o.0))
 cleared-at Locking is o c here =
     cleared-family user_pin_uid USERS (family_cleared admin_pin_uid ADMINS is) o c here
@@ -140,7 +150,8 @@ family-none name zero is o c h = h
 family-none name (suc n) is o c h = row-none (family_cleared name n is) (name (suc n)) o c (family-none name n is o c h)
 
 cleared-none : (sp : Sp) (is : List Item) (o : Uid) (c : Column) → item_at is o c ≡ None → item_at (cleared-on sp is) o c ≡ None
-cleared-none Admin is o c h = row-none (with_item (with_item (with_item is c_pin_sid tries_column (Number 0)) c_pin_msid tries_column (Number 0)) c_pin_psid tries_column (Number 0)) c_pin_admin_sp_admin o c (row-none (with_item (with_item is c_pin_sid tries_column (Number 0)) c_pin_msid tries_column (Number 0)) c_pin_psid o c (row-none (with_item is c_pin_sid tries_column (Number 0)) c_pin_msid o c (row-none is c_pin_sid o c h)))
+cleared-none Admin is o c h =
+    row-none (psid_cleared is) c_pin_admin_sp_admin o c (row-none (msid_cleared is) c_pin_psid o c (row-none (sid_cleared is) c_pin_msid o c (row-none is c_pin_sid o c h)))
 cleared-none Locking is o c h = family-none user_pin_uid USERS (family_cleared admin_pin_uid ADMINS is) o c (family-none admin_pin_uid ADMINS is o c h)
 
 pub clear-shows : (sp : Sp) (is : List Item) (counted new : Uid → ℕ) (rows : RowLook) → ShowTries is counted rows

@@ -18,7 +18,7 @@ use Rattle.sp_cells.specs.declared.byte_tables.TableSizes.{TableSizes}
 use Rattle.sp_cells.specs.Flat.{PlacedCell, sp_eq, cell_at}
 use Rattle.sp_cells.specs.Names.{c_pin_table, range_base, locking_sp, range_uid, admin_pin_uid}
 use Rattle.sp_tables.specs.Items.{Item, on, with_item, with_items}
-use Rattle.sp_tables.specs.Factory.{admin_factory, locking_factory, admin_sps, admin_authorities, label_authorities, admin_pins, label_pins, admin_aces, label_aces, removal_aces, data_removals, locking_authorities, locking_pins, locking_ranges, locking_mbr_controls, authority_aces, pin_aces, range_get_aces, range_aces, mbr_aces, gen_key_aces, range_keys, locking_infos, byte_tables, datastore_aces, opal_authorities, opal_pins, opal_admin_aces, opal_locking_aces, admin_constants, locking_constants}
+use Rattle.sp_tables.specs.Factory.{admin_factory, locking_factory, admin_sps, admin_authorities, label_authorities, opal_authorities, opal_pins, opal_admin_aces, admin_constants, admin_pins, label_pins, admin_aces, label_aces, removal_aces, data_removals, locking_authorities, locking_pins, locking_ranges, locking_mbr_controls, authority_aces, pin_aces, range_get_aces, range_aces, mbr_aces, gen_key_aces, opal_locking_aces, locking_constants, range_keys, locking_infos, byte_tables, datastore_aces}
 use Rattle.sp_tables.specs.Contents.{new_admin, new_locking, Contents, cells_look_up, flat}
 use Rattle.sp_tables.specs.Tries.{is_pin_row, is_tries, names_tries}
 use Rattle.locking.specs.declared.range.RangeRow.{RangeRow}
@@ -134,13 +134,13 @@ no-tries object (p ∷ ps) h = ap (λ b. (b && (p.0.0 == 6)) || names_tries obje
 
 -- the factory's rows, and those of openings
 admin-clean : (p : Profile) (msid psid : List ℕ) → are_clean (admin_factory p msid psid) ≡ true
-unfolding admin_sps admin_authorities label_authorities admin_pins label_pins admin_aces label_aces removal_aces data_removals
+unfolding admin_sps admin_authorities label_authorities opal_authorities opal_pins opal_admin_aces admin_constants admin_pins label_pins admin_aces label_aces removal_aces data_removals
 admin-clean Base msid psid = refl
 admin-clean Field msid psid = refl
 admin-clean Opal msid psid = refl
 
 locking-clean : (p : Profile) (sizes : TableSizes) → are_clean (locking_factory p sizes) ≡ true
-unfolding locking_authorities locking_pins locking_ranges locking_mbr_controls authority_aces pin_aces range_get_aces range_aces mbr_aces gen_key_aces range_keys locking_infos byte_tables datastore_aces opal_authorities opal_pins opal_admin_aces opal_locking_aces admin_constants locking_constants
+unfolding locking_authorities locking_pins locking_ranges locking_mbr_controls authority_aces pin_aces range_get_aces range_aces mbr_aces gen_key_aces opal_locking_aces locking_constants range_keys locking_infos byte_tables datastore_aces
 locking-clean Base sizes = refl
 locking-clean Field sizes = refl
 locking-clean Opal sizes = refl

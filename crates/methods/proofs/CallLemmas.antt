@@ -1,7 +1,7 @@
 -- What is answered, and made of the store and of the sessions, is what was judged: of a refusal, of results, of a Set, an
 -- attempt, an Activate and a Revert.
 use Rattle.std.proofs.Common.{◌≡◌, ℕ, ◌+◌, ◌==◌, true, false, ◌||◌, List, Option, None, refl, sym, subst, ◌∙◌, ap, if◌then◌else◌}
-use Rattle.std.specs.Prelude.{Result, Ok, IfOk, ◌-◌, nat_le, nat_lt}
+use Rattle.std.specs.Prelude.{Result, Ok, Err, IfOk, ◌-◌, nat_le, nat_lt}
 use Rattle.sp_cells.specs.declared.names.Uid.{Uid}
 use Rattle.audit.specs.declared.reason.AttemptFailure.{AttemptFailure}
 use Rattle.audit.specs.declared.rules.rule.Rule.{Rule}
@@ -36,6 +36,10 @@ tells-as x y out is h = subst (λ j. Tells j out) is h
 
 pub fulfils-as : (x y : Judgement) (session : SessionId) (out : Outcome) (s t : Stored) (l m : Live) → x ≡ y → Fulfils (outcome_in s session x) out s t l m → Fulfils (outcome_in s session y) out s t l m
 fulfils-as x y session out s t l m is h = subst (λ j. Fulfils (outcome_in s session j) out s t l m) is h
+
+pub told-in : (j : Judgement) (session : SessionId) (r : Result Outcome MethodFault) (s : Stored) (l : Live) → IfOk r (Tells j) → IfOk r (λ out. Fulfils (outcome_in s session j) out s s l l)
+told-in j session (Ok out) s l h = h (rows_in_force s) session.sp s l
+told-in j session (Err e) s l h = tt
 
 pub judged-as : (x y : Judgement) (session : SessionId) (r : Result Outcome MethodFault) (s t : Stored) (l m : Live) → x ≡ y
     → IfOk r (λ out. Fulfils (outcome_in s session x) out s t l m) → IfOk r (λ out. Fulfils (outcome_in s session y) out s t l m)

@@ -94,9 +94,15 @@ fn perform(
         (Handler::ListRows, Ask::Next { after, count }) => {
             tables::next(alloc, session.sp, object, *after, *count)
         }
-        (Handler::ReadAcl, Ask::GetAcl { object, method }) => {
+        (
+            Handler::ReadAcl,
+            Ask::GetAcl {
+                object: about,
+                method,
+            },
+        ) => {
             let profile = store.committed().config().profile();
-            tables::get_acl(alloc, profile, session.sp, *object, *method)
+            tables::get_acl(alloc, profile, session.sp, *about, *method)
         }
         _ => Ok(refused(alloc, status::FAIL, Rule::NoMethod)),
     }

@@ -1,5 +1,5 @@
 //! The tables of a self-locking drive's two security providers: their rows as typed values, their factory
-//! contents, and the fixed list of who may call which method of which object.
+//! contents, and the names of the rows of a table.
 #![tactic(auto)]
 
 mod checks;

@@ -125,14 +125,25 @@ unfolding family_cleared
 family-among name zero is = refl
 family-among name (suc n) is = among-with (family_cleared name n is) (name (suc n)) tries_column (Number 0) ∙ ap (λ r. with_item r (name (suc n)) tries_column (Number 0)) (family-among name n is)
 
+abbrev sid_cleared : List Item → List Item
+sid_cleared is = with_item is c_pin_sid tries_column (Number 0)
+
+abbrev msid_cleared : List Item → List Item
+msid_cleared is = with_item (sid_cleared is) c_pin_msid tries_column (Number 0)
+
+abbrev psid_cleared : List Item → List Item
+psid_cleared is = with_item (msid_cleared is) c_pin_psid tries_column (Number 0)
+
 admin-cleared_without : (is : List Item) → without_tries (admin_cleared is) ≡ without_tries is
-admin-cleared_without is = without-same (with_item (with_item (with_item is c_pin_sid tries_column (Number 0)) c_pin_msid tries_column (Number 0)) c_pin_psid tries_column (Number 0)) c_pin_admin_sp_admin tries_column (Number 0) refl ∙ without-same (with_item (with_item is c_pin_sid tries_column (Number 0)) c_pin_msid tries_column (Number 0)) c_pin_psid tries_column (Number 0) refl ∙ without-same (with_item is c_pin_sid tries_column (Number 0)) c_pin_msid tries_column (Number 0) refl ∙ without-same is c_pin_sid tries_column (Number 0) refl
+admin-cleared_without is =
+    without-same (psid_cleared is) c_pin_admin_sp_admin tries_column (Number 0) refl ∙ without-same (msid_cleared is) c_pin_psid tries_column (Number 0) refl
+    ∙ without-same (sid_cleared is) c_pin_msid tries_column (Number 0) refl ∙ without-same is c_pin_sid tries_column (Number 0) refl
 
 admin-cleared_among : (is : List Item) → tries_among (admin_cleared is) ≡ admin_cleared (tries_among is)
 admin-cleared_among is =
-    among-with (with_item (with_item (with_item is c_pin_sid tries_column (Number 0)) c_pin_msid tries_column (Number 0)) c_pin_psid tries_column (Number 0)) c_pin_admin_sp_admin tries_column (Number 0)
-    ∙ ap (λ r. with_item r c_pin_admin_sp_admin tries_column (Number 0)) (among-with (with_item (with_item is c_pin_sid tries_column (Number 0)) c_pin_msid tries_column (Number 0)) c_pin_psid tries_column (Number 0)
-    ∙ ap (λ r. with_item r c_pin_psid tries_column (Number 0)) (among-with (with_item is c_pin_sid tries_column (Number 0)) c_pin_msid tries_column (Number 0)
+    among-with (psid_cleared is) c_pin_admin_sp_admin tries_column (Number 0)
+    ∙ ap (λ r. with_item r c_pin_admin_sp_admin tries_column (Number 0)) (among-with (msid_cleared is) c_pin_psid tries_column (Number 0)
+    ∙ ap (λ r. with_item r c_pin_psid tries_column (Number 0)) (among-with (sid_cleared is) c_pin_msid tries_column (Number 0)
     ∙ ap (λ r. with_item r c_pin_msid tries_column (Number 0)) (among-with is c_pin_sid tries_column (Number 0))))
 
 admin_pins : (k : ℕ) → k ≤ ADMINS → is_tries (admin_pin_uid k) tries_column ≡ true

@@ -1,16 +1,17 @@
 use Rattle.std.proofs.Common.{◌≡◌, true, ◌||◌, ◌∙◌, refl, sym, ap, rules}
-use Rattle.tcg_calls.specs.declared.call_shapes.ask.Ask.TheVariants.{GetCells, GetBytes, Activate, GenKey}
+use Rattle.tcg_calls.specs.declared.call_shapes.ask.Ask.TheVariants.{GetCells, GetBytes, Activate, GenKey, Next, GetAcl}
 use Rattle.std.specs.Prelude.{slice_index}
 use Rattle.sp_cells.specs.declared.byte_tables.ByteTable.{ByteTable}
 use Rattle.sp_cells.specs.Config.{sizes_in}
 use Rattle.transactions.specs.Sights.{sight_of}
-use Rattle.methods.specs.Judgement.{table_given}
+use Rattle.ace_eval.specs.Aces.{acl_at}
+use Rattle.methods.specs.Judgement.{table_given, acl_told}
 use Rattle.methods.specs.Kinds.{kind_of, byte_table_of}
 use Rattle.methods.specs.Effects.{has_ask, handles}
 use Rattle.methods.specs.Calls.{standing_in}
 use Rattle.methods.specs.declared.kinds.Handler.TheVariants as handlers
-use Rattle.methods.proofs.CallLemmas.{judged-as, asked-is, set-is, activate-is, gen-key-is}
-use Rattle.methods.proofs.calls.perform.Goals.{in-WriteCells+in-SetCells-1, in-WriteBytes+in-SetBytes-1, in_default-2-via-in-ReadCells+in_default, in_default-2-via-in-ReadBytes+in_default, in_default-2-via-in-WriteCells+in_default, in_default-2-via-in-WriteBytes+in_default, in_default-2-via-in-Authenticate+in_default, in_default-2-via-in-RevertSp+in_default}
+use Rattle.methods.proofs.CallLemmas.{judged-as, told-in, asked-is, set-is, activate-is, gen-key-is}
+use Rattle.methods.proofs.calls.perform.Goals.{in-WriteCells+in-SetCells-1, in-WriteBytes+in-SetBytes-1, in_default-2-via-in-ReadCells+in_default, in_default-2-via-in-ReadBytes+in_default, in_default-2-via-in-WriteCells+in_default, in_default-2-via-in-WriteBytes+in_default, in_default-2-via-in-Authenticate+in_default, in_default-2-via-in-RevertSp+in_default, in_default-2-via-in-ListRows+in_default, in_default-2-via-in-ReadAcl+in_default}
 use Rattle.methods.proofs.calls.perform.Goals as goal
 
 pub returns-in-ReadCells-GetCells-clause-fulfils : goal.returns-in-ReadCells-GetCells-clause-fulfils
@@ -53,6 +54,22 @@ returns-in-WriteCells-SetCells-clause-fulfils c =
     ∙ asked-is (standing_in c.args.store.now c.args.sessions.now c.args.session) c.args.object c.args.ask.now c.args.ask.now has refl)
     (c.write.ensures.fulfils c.args.sessions.now)
 
+pub returns-in-ListRows-Next-clause-fulfils : goal.returns-in-ListRows-Next-clause-fulfils
+returns-in-ListRows-Next-clause-fulfils c =
+    let has : has_ask (kind_of c.args.session.sp c.args.object) c.args.ask.now ≡ true = sym (c.in-Some.ensures.cased ∙ ap (λ k. has_ask k c.args.ask.now) c.kind_of-kind.ensures) in
+    judged-as _ _ c.args.session c.next.result _ _ _ _
+    (asked-is (standing_in c.args.store.now c.args.sessions.now c.args.session) c.args.object c.args.ask.now (Next c.in-ListRows-Next.after c.in-ListRows-Next.count) has c.in-ListRows-Next.is-1)
+    (told-in _ c.args.session c.next.result c.args.store.now c.args.sessions.now c.next.ensures.tells)
+
+pub returns-in-ReadAcl-GetAcl-clause-fulfils : goal.returns-in-ReadAcl-GetAcl-clause-fulfils
+returns-in-ReadAcl-GetAcl-clause-fulfils c =
+    let has : has_ask (kind_of c.args.session.sp c.args.object) c.args.ask.now ≡ true = sym (c.in-Some.ensures.cased ∙ ap (λ k. has_ask k c.args.ask.now) c.kind_of-kind.ensures) in
+    let profile : c.profile-profile.result ≡ c.args.store.now.config.profile = search rules in
+    judged-as _ _ c.args.session c.get_acl.result _ _ _ _
+    (ap (λ p. acl_told (acl_at p c.args.session.sp c.in-ReadAcl-GetAcl.about c.in-ReadAcl-GetAcl.method)) profile
+    ∙ asked-is (standing_in c.args.store.now c.args.sessions.now c.args.session) c.args.object c.args.ask.now (GetAcl c.in-ReadAcl-GetAcl.about c.in-ReadAcl-GetAcl.method) has c.in-ReadAcl-GetAcl.is-1)
+    (told-in _ c.args.session c.get_acl.result c.args.store.now c.args.sessions.now c.get_acl.ensures.tells)
+
 pub returns-in_default-2-clause-fulfils : goal.returns-in_default-2-clause-fulfils
 returns-in_default-2-clause-fulfils c = elim c.in_default-2.branch [
   | in_default-2-via-in-ReadCells+in_default w ↦ absurd (search rules)
@@ -61,4 +78,6 @@ returns-in_default-2-clause-fulfils c = elim c.in_default-2.branch [
   | in_default-2-via-in-WriteBytes+in_default w ↦ absurd (search rules)
   | in_default-2-via-in-Authenticate+in_default w ↦ absurd (search rules)
   | in_default-2-via-in-RevertSp+in_default w ↦ absurd (search rules)
+  | in_default-2-via-in-ListRows+in_default w ↦ absurd (search rules)
+  | in_default-2-via-in-ReadAcl+in_default w ↦ absurd (search rules)
 ]
