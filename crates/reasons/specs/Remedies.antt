@@ -15,11 +15,12 @@ use Rattle.sp_cells.specs.declared.names.Sp.{Sp}
 use Rattle.sp_cells.specs.declared.names.Sp.TheVariants.{Admin, Locking}
 use Rattle.sp_cells.specs.declared.names.Column.{Column}
 use Rattle.sp_cells.specs.declared.cells.Cell.{Cell}
-use Rattle.sp_cells.specs.declared.cells.Cell.TheVariants.{Expr}
+use Rattle.sp_cells.specs.declared.cells.Cell.TheVariants.{Expr, Uid as Object}
 use Rattle.sp_cells.specs.Names.{table_of, c_pin_table, get, set, revert, this_sp, admin_sp, locking_sp, range_uid, mbr_control}
-use Rattle.sp_cells.specs.ColumnNames.{boolean_expr_column, pin_column, enabled_column, read_locked_column, write_locked_column, mbr_done_column}
+use Rattle.sp_cells.specs.ColumnNames.{boolean_expr_column, class_column, pin_column, enabled_column, read_locked_column, write_locked_column, mbr_done_column}
 use Rattle.sp_cells.specs.Flat.{LookUp}
 use Rattle.ace_eval.specs.Aces.{acl_at, naming, holds_at}
+use Rattle.ace_eval.specs.Truth.{has}
 use Rattle.audit.specs.declared.reason.AttemptFailure.{AttemptFailure}
 use Rattle.audit.specs.declared.reason.AttemptFailure.TheVariants.{WrongPin, LockedOut, Disabled, Blocked, Unknown}
 use Rattle.audit.specs.declared.reason.Why.{Why}
@@ -71,9 +72,18 @@ sp_object Locking = locking_sp
 abbrev pub revert_words : Uid → List ℕ
 revert_words object = codes "Revert of " ++ called_object object ++ codes " by "
 
+-- what an authority of an SP holds by itself: the class that its row names, too (Core 2.01, section 5.3, table Authority)
+abbrev pub held_with : Uid → Option Cell → List Uid
+held_with authority (Some (Object class)) =
+    if has (authority ∷ []) class then authority ∷ [] else authority ∷ class ∷ []
+held_with authority _ = authority ∷ []
+
+abbrev pub held_alone : LookUp → Sp → Uid → List Uid
+held_alone look sp authority = held_with authority (look sp authority class_column)
+
 -- An ACE that an authority fulfils by itself is no way out where that authority is locked out.
 abbrev pub is_beside : LookUp → Sp → Uid → Uid → Bool
-is_beside look sp authority ace = not (holds_at look sp (authority ∷ []) ace)
+is_beside look sp authority ace = not (holds_at look sp (held_alone look sp authority) ace)
 
 -- behind these words the ACEs of which one would do; no text where there are none
 abbrev pub reverted_text : LookUp → (words : List ℕ) → List Uid → List ℕ

@@ -260,7 +260,7 @@ impl Tper {
     fn profile(&self) -> Profile
         ensures { result ≡ self.now.store.config.profile }
     {
-        self.store.committed().config().profile()
+        self.in_force().config().profile()
     }
 
     /// What is sent to the session manager.

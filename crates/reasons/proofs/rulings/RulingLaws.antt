@@ -12,7 +12,7 @@ use Rattle.sp_cells.specs.ColumnNames.{boolean_expr_column, columns_column, prog
 use Rattle.sp_cells.specs.Flat.{LookUp, cell_at}
 use Rattle.sp_cells.specs.Resets.{programmatic}
 use Rattle.ace_eval.specs.Access.{this_sp_grants, owner_grants}
-use Rattle.tcg_calls.specs.Objects.{object_singles, authority_singles, admin_ace_singles, locking_ace_singles, method_singles, of_numbers, of_ranges, named_objects}
+use Rattle.tcg_calls.specs.Objects.{object_singles, table_singles, table_row_singles, authority_singles, admin_ace_singles, locking_ace_singles, method_singles, of_numbers, of_ranges, named_objects}
 use Rattle.tcg_calls.specs.Columns.{tper_info_names}
 use Rattle.trusted_cmds.specs.Commands.{is_programmatic_reset, reset_protocol, reset_com_id}
 use Rattle.trusted_cmds.specs.declared.command.Command.TheVariants.{Send, Receive}
@@ -74,7 +74,7 @@ rows = cell_at (
     ∷ [])
 
 no_reset : ruled_text Base rows (Some (Send reset_protocol reset_com_id 1 true)) (Some rules.Protocol) ≡ codes "because TPerInfo ProgrammaticResetEnable = 0\nlifted by: Set of TPerInfo ProgrammaticResetEnable = 1 by SID (ACE_TPerInfo_Set_ProgrammaticResetEnable)\n"
-unfolding this_sp_grants owner_grants object_singles authority_singles admin_ace_singles locking_ace_singles method_singles of_numbers of_ranges named_objects tper_info_names digits
+unfolding this_sp_grants owner_grants object_singles table_singles table_row_singles authority_singles admin_ace_singles locking_ace_singles method_singles of_numbers of_ranges named_objects tper_info_names digits
 no_reset = refl
 
 -- without a block it is none

@@ -2,7 +2,7 @@
 
 ghost use Rattle.std.specs.Prelude.{◌≡◌, ◌++◌, filter, OnOk};
 ghost use Rattle.sp_cells.specs.ColumnNames.{boolean_expr_column};
-ghost use Rattle.reasons.specs.Remedies.{fulfilling_text, way_text, more_ways_text, ways_text, aces_for, elsewhere_aces, is_beside};
+ghost use Rattle.reasons.specs.Remedies.{fulfilling_text, way_text, more_ways_text, ways_text, aces_for, elsewhere_aces, held_alone, is_beside};
 
 use crate::remedies::called::append_object_name;
 use crate::remedies::expression::append_expression;
@@ -46,12 +46,23 @@ pub(crate) fn aces_elsewhere<R: Rows>(
     aces_for(rows, sp, object, method, None)
 }
 
+/// What an authority of an SP holds by itself: the class that its row names, too.
+fn held_alone<R: Rows>(rows: &R, sp: Sp, authority: Uid) -> Authorities
+    ensures { result ≡ held_alone (R.look_up rows.now) sp authority }
+{
+    let mut held = Authorities::new();
+    held.insert(authority);
+    if let Some(Cell::Uid(class)) = rows.cell(sp, authority, Column::CLASS) {
+        held.insert(*class);
+    }
+    held
+}
+
 /// Whether an authority does not fulfil an ACE by itself.
 fn is_beside<R: Rows>(rows: &R, sp: Sp, authority: Uid, ace: Uid) -> bool
     ensures { result ≡ is_beside (R.look_up rows.now) sp authority ace }
 {
-    let mut alone = Authorities::new();
-    alone.insert(authority);
+    let alone = held_alone(rows, sp, authority);
     match rows.cell(sp, ace, Column::BOOLEAN_EXPR) {
         Some(Cell::Expr(expr)) => !holds(expr, &alone),
         _ => true,
