@@ -1,2 +1,2 @@
 mod Mets
-mod Values
+pub mod Values

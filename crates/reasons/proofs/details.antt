@@ -1,2 +1,3 @@
+mod ArgumentLaws
 mod DetailLaws
 mod UntakenLaws

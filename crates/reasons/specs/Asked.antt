@@ -129,8 +129,8 @@ unset_text size at count =
     ++ codes " on" ++ table_words size)
 
 -- how many rows are asked for, within the table
-abbrev pub rows_asked : ℕ → ℕ → ℕ → ℕ
-rows_asked size first last = if nat_lt last size then last + 1 - first else 0
+abbrev pub rows_wanted : ℕ → ℕ → ℕ → ℕ
+rows_wanted size first last = if nat_lt last size then last + 1 - first else 0
 
 -- beside so many bytes a response has twelve: four before them, the marks of its list, the end of data and a status
 abbrev pub beside_bytes : ℕ
@@ -152,7 +152,7 @@ long_text count =
     ++ codes " bytes of tokens") else []
 
 abbrev pub too_long_text : ℕ → ℕ → Option ℕ → List ℕ
-too_long_text size first last = long_text (rows_asked size first (last_row size last))
+too_long_text size first last = long_text (rows_wanted size first (last_row size last))
 
 -- by what was asked for, in a session of an SP
 abbrev pub set_fault_text : Bool → LookUp → Uid → SetError → List (ℕ × Tree) → List ℕ

@@ -34,6 +34,7 @@ use Rattle.reasons.specs.Rulings.{because_text}
 use Rattle.reasons.specs.Sent.{SentCall, call_sent, session_of_frame, sp_wanted}
 use Rattle.reasons.specs.Asked.{Seen, is_last, asked_text}
 use Rattle.reasons.specs.Untaken.{untaken_text}
+use Rattle.reasons.specs.Arguments.{arguments_text}
 
 -- `session 4096 on LockingSP`
 abbrev pub session_words : Sp → ℕ → List ℕ
@@ -148,7 +149,8 @@ detail_text counted seen lives payload rules.SpBusy =
     busy_text counted lives (sp_wanted (call_sent payload))
 detail_text counted seen lives payload rules.NoSession =
     lost_text counted lives (session_of_frame (frame_in payload))
-detail_text counted seen lives payload rules.Shape = shape_text (call_sent payload)
+detail_text counted seen lives payload rules.Shape =
+    shape_text (call_sent payload) ++ arguments_text seen.profile lives payload
 detail_text counted seen lives payload rules.WrongValue =
     asked_text seen lives payload rules.WrongValue ++ untaken_text seen.profile lives payload
 detail_text counted seen lives payload rules.OutsideTable =

@@ -13,4 +13,5 @@ pub mod Rulings
 pub mod Sent
 pub mod Asked
 pub mod Untaken
+pub mod Arguments
 pub mod Details

@@ -34,7 +34,8 @@ abbrev pub bytes_words : ℕ → List ℕ
 bytes_words most = worded_number (codes " is no byte string of at most ") most ++ codes " bytes"
 
 abbrev pub expression_words : ℕ → List ℕ
-expression_words most = worded_number (codes " is no expression of at most ") most ++ codes " elements"
+expression_words most =
+    worded_number (codes " is no expression of at most ") most ++ codes " elements"
 
 -- what a value is not, which a column of this type does not take
 abbrev pub unlike_words : ColumnType → List ℕ

@@ -10,7 +10,7 @@ ghost use Rattle.methods.specs.Kinds.{kind_of, byte_table_of};
 ghost use Rattle.sp_cells.specs.declared.names.Sp.TheVariants.{Locking};
 ghost use Rattle.reasons.specs.Lives.{life_on};
 ghost use Rattle.reasons.specs.Sent.{call_seen};
-ghost use Rattle.reasons.specs.Asked.{seen_with, is_last, is_its_session, number_set, place_set, meets_place, met_from, met_by, met_text, overlap_text, beyond_text, rows_words, table_words, outside_text, unset_text, rows_asked, is_long, long_text, cells_text, set_bytes_text, get_bytes_text, ask_text, called_text, asked_text};
+ghost use Rattle.reasons.specs.Asked.{seen_with, is_last, is_its_session, number_set, place_set, meets_place, met_from, met_by, met_text, overlap_text, beyond_text, rows_words, table_words, outside_text, unset_text, rows_wanted, is_long, long_text, cells_text, set_bytes_text, get_bytes_text, ask_text, called_text, asked_text};
 
 use crate::explained::{Place, SessionChronicle, SpLife, append_number, append_place};
 use crate::rulings::append_because;
@@ -232,8 +232,8 @@ fn append_unset(
 }
 
 /// How many rows are asked for, within the table.
-fn rows_asked(size: u64, first: u64, last: u64) -> u64
-    ensures { result ≡ rows_asked size first last }
+fn rows_wanted(size: u64, first: u64, last: u64) -> u64
+    ensures { result ≡ rows_wanted size first last }
 {
     if last < size {
         (last + 1).saturating_sub(first)
@@ -334,7 +334,7 @@ fn append_get_bytes(
 {
     match rule {
         Rule::OutsideTable => append_outside(alloc, text, size, first, last),
-        Rule::TooLong => append_long(alloc, text, rows_asked(size, first, last_row(size, last))),
+        Rule::TooLong => append_long(alloc, text, rows_wanted(size, first, last_row(size, last))),
         _ => Ok(()),
     }
 }

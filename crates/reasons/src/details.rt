@@ -5,9 +5,11 @@ ghost use Rattle.tcg_tokens.specs.Tree.{tree};
 ghost use Rattle.reasons.specs.Lives.{life_on};
 ghost use Rattle.reasons.specs.Asked.{seen_with, MetLaw, LongLaw};
 ghost use Rattle.reasons.specs.Sent.{call_seen, sp_wanted};
+ghost use Rattle.reasons.specs.Arguments.{ArgumentLaw};
 ghost use Rattle.reasons.specs.Untaken.{UntakenColumnLaw, UntakenLaw};
 ghost use Rattle.reasons.specs.Details.{session_words, act_line, started_words, freed_line, busy_since, busy_if, busy_text, ended_words, ended_since, elsewhere_line, ended_if, lost_on, lost_text, writes_fault, sp_fault, is_host_number, start_fault, start_words, start_line, is_start_call, shape_text, detail_text, details_text, StartFaultLaw};
 
+use crate::arguments::append_arguments;
 use crate::asked::{append_asked, is_last};
 use crate::explained::{
     Cause, Counted, Onset, SessionChronicle, Source, append_client, append_number, counted_word,
@@ -395,7 +397,8 @@ fn append_detail<R: Rows>(
         }
         Rule::Shape => {
             let call = call_sent(alloc, payload)?;
-            append_shape(text, call.as_ref())
+            append_shape(text, call.as_ref())?;
+            append_arguments(alloc, text, rows.profile(), sessions, payload)
         }
         Rule::WrongValue => {
             append_asked(alloc, text, rows, is_open, sessions, payload, rule)?;
@@ -442,12 +445,14 @@ pub fn details_of<R: Rows>(
 ///
 /// `starts`: a StartSession with an argument that is told to be at fault asks for nothing, whatever the others are. `met`: a
 /// range that is told to be met has a sector of the other one. `long`: a response of so many bytes has as many bytes of tokens
-/// as are told. `untaken`: a column of a Set is told exactly where a Set of these values sets nothing. `column`: that column takes
-/// no such value, and those before it take theirs.
+/// as are told. `untaken`: a column of a Set is told exactly where a Set of these values sets nothing. `column`: that column
+/// takes no such value, and those before it take theirs. `arguments`: an argument of a method is told exactly where a call
+/// asks nothing.
 pub fn laws_of_details()
     ensures starts { StartFaultLaw }
     ensures met { MetLaw }
     ensures long { LongLaw }
     ensures untaken { UntakenLaw }
     ensures column { UntakenColumnLaw }
+    ensures arguments { ArgumentLaw }
 {}

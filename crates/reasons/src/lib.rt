@@ -2,6 +2,7 @@
 //! why a rule refused what nothing denied.
 #![tactic(auto)]
 
+mod arguments;
 mod asked;
 pub mod details;
 pub mod explained;

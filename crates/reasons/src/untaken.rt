@@ -30,12 +30,7 @@ use tcg_tokens::{Call, Value};
 fn append_bytes(alloc: Global, words: &mut Vec<u8>, most: usize) -> Result<(), AllocError>
     ensures { OnOk result (words.new.items ≡ words.old.items ++ bytes_words most) }
 {
-    append_number(
-        alloc,
-        words,
-        b" is no byte string of at most ",
-        most as u64,
-    )?;
+    append_number(alloc, words, b" is no byte string of at most ", most as u64)?;
     words.extend_from_slice(b" bytes")?;
     Ok(())
 }
@@ -54,12 +49,7 @@ fn append_mechanism(alloc: Global, words: &mut Vec<u8>) -> Result<(), AllocError
 fn append_expression(alloc: Global, words: &mut Vec<u8>, most: usize) -> Result<(), AllocError>
     ensures { OnOk result (words.new.items ≡ words.old.items ++ expression_words most) }
 {
-    append_number(
-        alloc,
-        words,
-        b" is no expression of at most ",
-        most as u64,
-    )?;
+    append_number(alloc, words, b" is no expression of at most ", most as u64)?;
     words.extend_from_slice(b" elements")?;
     Ok(())
 }
@@ -249,7 +239,7 @@ fn append_set_values(
 }
 
 /// The SP on which the session of a number lives.
-fn sp_of_session(sessions: &SessionChronicle, session: u64) -> Option<Sp>
+pub(crate) fn sp_of_session(sessions: &SessionChronicle, session: u64) -> Option<Sp>
     ensures { result ≡ sp_of_session (life_on sessions.now) session }
 {
     if is_its_session(session, &sessions.on(Sp::Admin)) {
