@@ -19,7 +19,7 @@ use Rattle.transactions.specs.Resets.{is_range}
 use Rattle.sessions.specs.Deeds.{cells_set, Sets, SessionDeed, Changed, Began, Aborted}
 use Rattle.trusted_cmds.specs.declared.command.Command.TheVariants as commands
 use Rattle.history.specs.Decisions.{any_below, refuses, verdict_on}
-use Rattle.history.specs.Events.{Event, InSession, did}
+use Rattle.history.specs.Events.{Event, InSession, Left, did}
 use Rattle.history.specs.Facts.{facts}
 use Rattle.history.specs.Items.{Items}
 use Rattle.history.specs.NoTrace.{IsByOwnView, Aborts, emptied, further}
@@ -43,7 +43,7 @@ use Rattle.audit.specs.declared.rules.rule.Rule.TheVariants.{Protocol}
 -- A command set of one byte, without sessions: 1 locks range 1 against reads, 2 begins a transaction,
 -- 3 aborts it.
 abbrev in_it : SessionDeed → Event
-in_it deed = did (InSession deed (record { com_id = 0x1000; bytes = [] }))
+in_it deed = did (InSession deed (Left 0x1000 []))
 
 abbrev locks : SessionDeed
 locks = Changed Locking (Sets (cells_set (range_uid 1) ((read_locked_column, Number 1) ∷ [])))

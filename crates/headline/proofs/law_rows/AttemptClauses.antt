@@ -23,7 +23,7 @@ use Rattle.methods.specs.Judgement.{asked, does}
 use Rattle.methods.specs.Laws.{IsAmong, IsGranted, takes_effect}
 use Rattle.history.specs.Audit.{ActAuditLaw, ClientAct, audit_of_acts, event_of}
 use Rattle.history.specs.DenialLaws.{DenialLaw, TransferDenied, MethodDenied, AttemptDenied, StartDenied}
-use Rattle.history.specs.Events.{Event, Response, InSession, WasReset, did}
+use Rattle.history.specs.Events.{Event, Response, InSession, Left, WasReset, did}
 use Rattle.history.specs.Facts.{Facts, facts, standing}
 use Rattle.history.specs.History.{Act, event_by, log}
 use Rattle.history.specs.KeptCalls.{CallLaw as KeptCallLaw}
@@ -44,7 +44,7 @@ attempt failure = did (InSession (Tried (record {
   row = c_pin_sid;
   failure = failure;
   gained = [];
-})) (record { com_id = 0x1000; bytes = [] }))
+})) (Left 0x1000 []))
 
 abbrev wrong : Event
 wrong = attempt (Some WrongPin)
