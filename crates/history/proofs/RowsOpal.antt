@@ -6,9 +6,8 @@ use Rattle.std.specs.List.{flat_map}
 use Rattle.basics.specs.declared.profile.Profile.TheVariants.{Field, Opal}
 use Rattle.sp_cells.specs.declared.names.Uid.{Uid}
 use Rattle.sp_cells.specs.declared.names.Sp.TheVariants.{Admin}
-use Rattle.sp_cells.specs.declared.cells.Element.{Element}
 use Rattle.sp_cells.specs.declared.cells.Element.TheVariants.{Authority, Or}
-use Rattle.sp_cells.specs.Names.{admin_sp, locking_sp, sp_table, locking_table, table_uid, access_control, next, get_acl, set, get, revert, sid, admin_sp_admin, admins_class, admin_uid, user_uid, range_uid, mbr_control, c_pin_sid, c_pin_msid, c_pin_admin_sp_admin, ace_sp_sid, ace_admins, ace_sp_psid, ace_datastore_get_all, ace_locking_admins_set, ace_range_set_read_locked, ace_range_set_write_locked, ace_admins_set_common_name}
+use Rattle.sp_cells.specs.Names.{admin_sp, locking_sp, sp_table, table_uid, access_control, next, get_acl, set, revert, sid, admin_sp_admin, admins_class, admin_uid, user_uid, range_uid, mbr_control, c_pin_sid, c_pin_msid, c_pin_admin_sp_admin, ace_sp_sid, ace_admins, ace_sp_psid, ace_datastore_get_all}
 use Rattle.sp_tables.specs.RowNames.{listed_tables}
 use Rattle.sp_cells.specs.Authorities.{authorities_of_locking}
 use Rattle.sp_tables.specs.Faults.{any_to}
