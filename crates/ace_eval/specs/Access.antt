@@ -111,10 +111,10 @@ told_tables Locking = table_table ∷ sp_info_table ∷ sp_templates_table ∷ m
     ∷ locking_info_table ∷ locking_table ∷ mbr_control_table ∷ key_table ∷ []
 
 -- those whose rows it lists: each of objects that may have more than one
-abbrev pub listed_tables : Sp → List ℕ
-listed_tables Admin = table_table ∷ sp_templates_table ∷ method_id_table ∷ ace_table
+abbrev pub next_tables : Sp → List ℕ
+next_tables Admin = table_table ∷ sp_templates_table ∷ method_id_table ∷ ace_table
     ∷ authority_table ∷ c_pin_table ∷ template_table ∷ sp_table ∷ []
-listed_tables Locking = table_table ∷ sp_templates_table ∷ method_id_table ∷ ace_table
+next_tables Locking = table_table ∷ sp_templates_table ∷ method_id_table ∷ ace_table
     ∷ authority_table ∷ c_pin_table ∷ secret_protect_table ∷ locking_table ∷ key_table ∷ []
 
 -- the methods of an SP, each a row of its table MethodID
@@ -130,7 +130,7 @@ own_grants sp =
     ∷ grants sp (sp_info ∷ sp_template_base ∷ sp_template_own ∷ []) get (ace_anybody ∷ [])
 
 unfoldable pub listed_grants : Sp → List Grant
-listed_grants sp = grants sp (map table_uid (listed_tables sp)) next (ace_anybody ∷ [])
+listed_grants sp = grants sp (map table_uid (next_tables sp)) next (ace_anybody ∷ [])
 
 unfoldable pub told_grants : Sp → List Grant
 told_grants sp = grants sp (map table_row (told_tables sp)) get (ace_anybody ∷ [])

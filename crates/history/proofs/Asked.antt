@@ -18,7 +18,7 @@ use Rattle.tcg_tokens.specs.Tree.{Tree, Trees}
 use Rattle.tcg_tokens.specs.Tree as tree
 use Rattle.tcg_calls.specs.Parameters.{start_row_parameter, end_row_parameter, start_column_parameter, end_column_parameter, where_parameter, values_parameter, next_where_parameter, next_count_parameter, proof_parameter, keep_global_range_key_parameter}
 use Rattle.tcg_calls.specs.Named.{values_of, list_in, assignments, value_of, options, number_or, number_if_any, bytes_or_empty}
-use Rattle.tcg_calls.specs.Asks.{uid_of, is_byte_table, cellblock, columns_between, columns_asked_in, is_ordered, rows_between, rows_in, cells_of, cells_to_set, cells_in, bytes_to_set, bytes_in, proof_of, proof_in, attempt_in, without_arguments, get_of, set_of, keep_of, keep_in, row_if_any, rows_behind, next_in, get_acl_of, other_ask_of, ask_of}
+use Rattle.tcg_calls.specs.Asks.{uid_of, uid_in, is_byte_table, cellblock, columns_between, columns_asked_in, is_ordered, rows_between, rows_in, cells_of, cells_to_set, cells_in, bytes_to_set, bytes_in, proof_of, proof_in, attempt_in, without_arguments, get_of, set_of, keep_of, keep_in, row_if_any, rows_asked_behind, next_in, line_asked, get_acl_of, other_ask_of, ask_of}
 use Rattle.tcg_calls.specs.declared.call_shapes.ask.Ask.{Ask}
 use Rattle.tcg_calls.specs.declared.call_shapes.ask.Ask.TheVariants.{GetCells, GetBytes, SetCells, SetBytes, Authenticate, Activate, Revert, GenKey, RevertSp, Next, GetAcl, Other}
 use Rattle.methods.specs.Judgement.{asked}
@@ -169,22 +169,21 @@ next-gives : (p : Ask → Bool) (x : Option (List (ℕ × Tree))) → ((after : 
 next-gives p None h = gives-none p
 next-gives p (Some ps) h = by_row (row_if_any (value_of next_where_parameter ps)) (number_if_any (value_of next_count_parameter ps))
   where
-    by_row : (after : Option (Option Uid)) (count : Option (Option ℕ)) → Gives p (rows_behind after count)
+    by_row : (after : Option (Option Uid)) (count : Option (Option ℕ)) → Gives p (rows_asked_behind after count)
     by_row None count = gives-none p
     by_row (Some after) None = gives-none p
     by_row (Some after) (Some count) = gives-some p (Next after count) (h after count)
 
+line-gives : (p : Ask → Bool) (object method : Option Uid) → ((about what : Uid) → p (GetAcl about what) ≡ true) → Gives p (line_asked object method)
+line-gives p None method h = gives-none p
+line-gives p (Some object) None h = gives-none p
+line-gives p (Some object) (Some method) h = gives-some p (GetAcl object method) (h object method)
+
 acl-gives : (p : Ask → Bool) (args : List Tree) → ((about what : Uid) → p (GetAcl about what) ≡ true) → Gives p (get_acl_of args)
 acl-gives p [] h = gives-none p
-acl-gives p (tree.number n ∷ ts) h = gives-none p
-acl-gives p (tree.list us ∷ ts) h = gives-none p
-acl-gives p (tree.named n v ∷ ts) h = gives-none p
-acl-gives p (tree.bytes b ∷ []) h = gives-none p
-acl-gives p (tree.bytes b ∷ tree.number n ∷ ts) h = gives-none p
-acl-gives p (tree.bytes b ∷ tree.list us ∷ ts) h = gives-none p
-acl-gives p (tree.bytes b ∷ tree.named n v ∷ ts) h = gives-none p
-acl-gives p (tree.bytes b ∷ tree.bytes c ∷ []) h = gives-if p _ _ _ (gives-some p (GetAcl (uid_of b) (uid_of c)) (h (uid_of b) (uid_of c))) (gives-none p)
-acl-gives p (tree.bytes b ∷ tree.bytes c ∷ t ∷ ts) h = gives-none p
+acl-gives p (object ∷ []) h = gives-none p
+acl-gives p (object ∷ method ∷ []) h = line-gives p (uid_in object) (uid_in method) h
+acl-gives p (object ∷ method ∷ t ∷ ts) h = gives-none p
 
 other-gives : (profile : Profile) (method : Uid) (args : List Tree) → Gives (λ ask. is_own profile ask method) (other_ask_of profile method args)
 other-gives Base method args = gives-some (λ ask. is_own Base ask method) Other refl

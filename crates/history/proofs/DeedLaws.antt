@@ -595,8 +595,8 @@ either-can o past false x y h g = g
 
 manager-can : (o : Origin) (past : List Event) (com_id : ℕ) (read : Result Message TokenError) → CanDo o past (to_manager (facts o past) com_id read).deed
 manager-can o past com_id (Ok (call object method args status)) =
-    either-can o past (is_method_of_manager properties (uid_of object) (uid_of method)) (says Unchanged (properties_message (values_of args))) _ tt
-    (either-can o past (is_method_of_manager start_session (uid_of object) (uid_of method)) (started (facts o past) com_id (values_of args)) (refuses_item (refusal_of fail) NoMethod) (started-can o past com_id (opening_of (values_of args))) tt)
+    either-can o past (is_method_of_manager properties (uid_of object) (uid_of method)) (says Unchanged (properties_message (facts o past).config.profile (values_of args))) _ tt
+    (either-can o past (is_method_of_manager start_session (uid_of object) (uid_of method)) (started (facts o past) com_id (values_of args)) (refuses_item (refusal_of fail) NoMethod) (started-can o past com_id (opening_of (facts o past).config.profile (values_of args))) tt)
 manager-can o past com_id (Ok (reply results status)) = tt
 manager-can o past com_id (Ok (begin n)) = tt
 manager-can o past com_id (Ok (end n)) = tt

@@ -114,7 +114,7 @@ start-denied f act why d =
     ∙ ap (λ b. (cond b (manager_event f d.com_id d.frame.session (message_in d.frame.payload)) (to_session f d.com_id d.frame.session d.frame.payload (session_named f d.com_id d.frame.session))).denied) d.manager
     ∙ ap (λ r. (manager_event f d.com_id d.frame.session r).denied) d.calls
     ∙ ap (λ b. (cond b (ignores Discarded) (answers d.com_id d.frame.session (to_manager f d.com_id (Ok (call d.object d.method d.args d.status))))).denied) (of-manager f.config.profile (is_method_of_manager properties o m) (is_method_of_manager start_session o m) d.starts)
-    ∙ ap (λ b. (cond b (says Unchanged (properties_message (values_of d.args))) (cond (is_method_of_manager start_session o m) (started f d.com_id (values_of d.args)) (refuses_item (refusal_of fail) NoMethod))).denied) d.no_properties
+    ∙ ap (λ b. (cond b (says Unchanged (properties_message f.config.profile (values_of d.args))) (cond (is_method_of_manager start_session o m) (started f d.com_id (values_of d.args)) (refuses_item (refusal_of fail) NoMethod))).denied) d.no_properties
     ∙ ap (λ b. (cond b (started f d.com_id (values_of d.args)) (refuses_item (refusal_of fail) NoMethod)).denied) d.starts
     ∙ ap (λ x. (started_by f d.com_id (host_of (values_of d.args)) x).denied) d.shaped
     ∙ ap (λ v. denied_with (Some d.opening) v) d.fails
@@ -307,12 +307,12 @@ session-is f act why com_id frame sent no_manager session named (Err e) is h = a
 -- the session manager
 called-is : (f : Facts) (act : Act) (why : Why) (com_id : ℕ) (frame : Frame) → IsSent f act com_id frame → is_manager frame.session ≡ true → (object method : List ℕ) (args : Trees) (status : List ℕ) → message_in frame.payload ≡ Ok (call object method args status)
     → (p q : Bool) → is_method_of_manager properties (uid_of object) (uid_of method) ≡ p → is_method_of_manager start_session (uid_of object) (uid_of method) ≡ q
-    → (cond p (says Unchanged (properties_message (values_of args))) (cond q (started f com_id (values_of args)) (refuses_item (refusal_of fail) NoMethod))).denied ≡ Some why → IsDenied f act why
+    → (cond p (says Unchanged (properties_message f.config.profile (values_of args))) (cond q (started f com_id (values_of args)) (refuses_item (refusal_of fail) NoMethod))).denied ≡ Some why → IsDenied f act why
 called-is f act why com_id frame sent manager object method args status calls true q is_p is_q h = absurd (nothing h)
 called-is f act why com_id frame sent manager object method args status calls false false is_p is_q h = absurd (nothing h)
-called-is f act why com_id frame sent manager object method args status calls false true is_p is_q h = by_opening (opening_of (values_of args)) refl h
+called-is f act why com_id frame sent manager object method args status calls false true is_p is_q h = by_opening (opening_of f.config.profile (values_of args)) refl h
   where
-    by_verdict : (c : Opening) → opening_of (values_of args) ≡ Some c → (v : StartVerdict) → start_verdict f (Some c) ≡ v → denied_with (Some c) v ≡ Some why → IsDenied f act why
+    by_verdict : (c : Opening) → opening_of f.config.profile (values_of args) ≡ Some c → (v : StartVerdict) → start_verdict f (Some c) ≡ v → denied_with (Some c) v ≡ Some why → IsDenied f act why
     by_verdict c shaped (Refused s r) is g = absurd (nothing g)
     by_verdict c shaped (Attempted sp None) is g = absurd (nothing g)
     by_verdict c shaped (Attempted sp (Some failure)) is g = inr (inr (inr (record {
@@ -335,7 +335,7 @@ called-is f act why com_id frame sent manager object method args status calls fa
       why_is = sym (same-why g);
     })))
 
-    by_opening : (x : Option Opening) → opening_of (values_of args) ≡ x → (started_by f com_id (host_of (values_of args)) x).denied ≡ Some why → IsDenied f act why
+    by_opening : (x : Option Opening) → opening_of f.config.profile (values_of args) ≡ x → (started_by f com_id (host_of (values_of args)) x).denied ≡ Some why → IsDenied f act why
     by_opening None is g = absurd (nothing g)
     by_opening (Some c) is g = by_verdict c is (start_verdict f (Some c)) refl g
 

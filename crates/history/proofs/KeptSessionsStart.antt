@@ -4,6 +4,7 @@ use Rattle.std.specs.Prelude.{is_some, nat_lt}
 use Rattle.std.specs.List.{list_any}
 use Rattle.std.specs.Map.{lookup}
 use Rattle.std.proofs.lemmas.Bool.{or_left, or_right}
+use Rattle.sp_cells.specs.Config.{Config}
 use Rattle.sp_cells.specs.declared.names.Uid.{Uid}
 use Rattle.sp_cells.specs.declared.names.Sp.{Sp}
 use Rattle.sp_cells.specs.declared.names.Sp.TheVariants.{Admin, Locking}
@@ -23,17 +24,18 @@ use Rattle.sessions.specs.Attempts.{attempt_failure as failure_of, credential}
 use Rattle.sessions.specs.Answers.{rows_in_force, up}
 use Rattle.sessions.specs.Gains.{first_held}
 use Rattle.sessions.specs.Live.{Holder, Live, session_at, lives_on, AreNumbered}
-use Rattle.sessions.specs.Starts.{opening_of, sp_named, is_in_use, is_full, opening_verdict_on, verdict, host_of, reply_to, denied_with, rule_of, stored_by, stored_with, begun_by, begun_with, next_by}
+use Rattle.sessions.specs.Starts.{opening_of, sp_named, is_in_use, is_full, opening_verdict_on, verdict, host_of, reply_to, denied_with, rule_of, stored_by, stored_with, begun_by, begun_with, next_by, start_reply, start_denied, start_rule, start_stored}
 use Rattle.history.specs.Opening.{Origin}
 use Rattle.shadow_mbr.specs.Erasure.{no_sectors}
 use Rattle.sessions.specs.Deeds.{Begun, erased_by}
 use Rattle.history.specs.Events.{Event}
 use Rattle.history.specs.Readers.{session_on, sid_block}
 use Rattle.history.specs.Facts.{Facts, facts, numbered, live}
-use Rattle.history.specs.Tcg.{start_verdict, deed_of_start, start_deed}
-use Rattle.sessions.specs.Made.{with_count, StoresAs, gains_on, LivesAs}
+use Rattle.history.specs.Tcg.{start_verdict, deed_of_start, start_deed, started_by}
+use Rattle.sessions.specs.Made.{with_count, StoresAs, gains_on, LivesAs, Meets}
 use Rattle.history.specs.KeptSessions.{session_numbered, KeepsSessions}
 use Rattle.history.specs.KeptCalls.{StartLaw}
+use Rattle.history.specs.KeptStore.{KeepsStore}
 use Rattle.history.proofs.Words.{sp-same}
 use Rattle.history.proofs.KeptStoreReads.{store_read_law}
 use Rattle.history.proofs.KeptSessionsNumbers.{Hits, split, numbered-miss, numbered-hit, none-apart, kept-none, Kept, kept-some}
@@ -221,14 +223,19 @@ block-with : (f : Facts) (com_id : ℕ) (block : SidBlock) (x : Option Opening) 
 block-with f com_id block None = refl
 block-with f com_id block (Some opening) = block-by f com_id block opening (start_verdict f (Some opening))
 
-pub start_law : StartLaw
-start_law o past s l m com_id args store k are is stays after points =
+-- What an opening comes to, whatever asks for it.
+
+opened-as : (o : Origin) (past : List Event) (s : Stored) (l m : Live) (com_id host : ℕ) (x : Option Opening) → KeepsStore s o past → KeepsSessions l past → AreNumbered l
+    → l.block ≡ sid_block past → m.block ≡ l.block
+    → m.next ≡ next_by (verdict (rows_in_force s) l x) l.next
+    → ((n : ℕ) → session_at m n ≡ begun_with (rows_in_force s) com_id x (verdict (rows_in_force s) l x) (l.next == n) (session_at l n))
+    → Meets (started_by (facts o past) com_id host x) (reply_to host l.next (verdict (rows_in_force s) l x)) (denied_with x (verdict (rows_in_force s) l x)) (rule_of (verdict (rows_in_force s) l x)) no_sectors s (stored_with x (verdict (rows_in_force s) l x) s) l m
+opened-as o past s l m com_id host x store k are is stays after points =
     let f : Facts = facts o past in
     let rows : rows_in_force s ≡ f.rows = (store_read_law s o past store).rows in
-    let x : Option Opening = opening_of args in
     let verdicts : verdict (rows_in_force s) l x ≡ start_verdict f x = ap (λ look. verdict look l x) rows ∙ verdict-same f.rows l (live f) (alike-facts o past l k are is) x in
     record {
-      answer = ap (λ n. reply_to (host_of args) n (verdict (rows_in_force s) l x)) k.next ∙ ap (reply_to (host_of args) f.next_number) verdicts;
+      answer = ap (λ n. reply_to host n (verdict (rows_in_force s) l x)) k.next ∙ ap (reply_to host f.next_number) verdicts;
       denied = ap (denied_with x) verdicts;
       rule = ap rule_of verdicts;
       erases = erases-with f com_id x;
@@ -236,3 +243,9 @@ start_law o past s l m com_id args store k are is stays after points =
       sessions = lives-with f com_id (rows_in_force s) l m rows k.next x verdicts after points;
       block = stays ∙ block-with f com_id l.block x;
     }
+
+pub start_law : StartLaw
+start_law o past s l m com_id args store k are is stays after points =
+    subst (λ (config : Config). Meets (started_by (facts o past) com_id (host_of args) (opening_of config.profile args)) (start_reply s l args) (start_denied s l args) (start_rule s l args) no_sectors s (start_stored s l args) l m)
+    store.config
+    (opened-as o past s l m com_id (host_of args) (opening_of s.config.profile args) store k are is stays after points)

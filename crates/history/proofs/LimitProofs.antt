@@ -85,8 +85,8 @@ either-below f false x y h g = g
 
 manager-below : (f : Facts) (com_id : ℕ) (read : Result Message TokenError) → Below f (to_manager f com_id read).deed
 manager-below f com_id (Ok (call object method args status)) =
-    either-below f (is_method_of_manager properties (uid_of object) (uid_of method)) (says Unchanged (properties_message (values_of args))) _ tt
-    (either-below f (is_method_of_manager start_session (uid_of object) (uid_of method)) (started f com_id (values_of args)) (refuses_item (refusal_of fail) NoMethod) (started-below f com_id (opening_of (values_of args))) tt)
+    either-below f (is_method_of_manager properties (uid_of object) (uid_of method)) (says Unchanged (properties_message f.config.profile (values_of args))) _ tt
+    (either-below f (is_method_of_manager start_session (uid_of object) (uid_of method)) (started f com_id (values_of args)) (refuses_item (refusal_of fail) NoMethod) (started-below f com_id (opening_of f.config.profile (values_of args))) tt)
 manager-below f com_id (Ok (reply results status)) = tt
 manager-below f com_id (Ok (begin n)) = tt
 manager-below f com_id (Ok (end n)) = tt

@@ -95,7 +95,7 @@ pub record StartDenied (f : Facts) (act : Act) (why : Why) : Type 0 where
   pub no_properties : is_method_of_manager properties (uid_of object) (uid_of method) ≡ false
   pub starts : is_method_of_manager start_session (uid_of object) (uid_of method) ≡ true
   pub opening : Opening
-  pub shaped : opening_of (values_of args) ≡ Some opening
+  pub shaped : opening_of f.config.profile (values_of args) ≡ Some opening
   pub sp : Sp
   pub failure : AttemptFailure
   pub fails : start_verdict f (Some opening) ≡ Attempted sp (Some failure)

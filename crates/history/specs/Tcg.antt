@@ -100,14 +100,15 @@ started_by f com_id host opening = record {
 }
 
 abbrev pub started : Facts → ℕ → List Tree → Outcome
-started f com_id args = started_by f com_id (host_of args) (opening_of args)
+started f com_id args = started_by f com_id (host_of args) (opening_of f.config.profile args)
 
 abbrev pub is_method_of_manager : Uid → Uid → Uid → Bool
 is_method_of_manager wanted object method = object.0 == session_manager.0 && method.0 == wanted.0
 
 abbrev pub called_manager : Facts → ℕ → Uid → Uid → List Tree → Outcome
 called_manager f com_id object method args =
-    if is_method_of_manager properties object method then says Unchanged (properties_message args)
+    if is_method_of_manager properties object method
+    then says Unchanged (properties_message f.config.profile args)
     else (if is_method_of_manager start_session object method then started f com_id args
     else refuses_item (refusal_of fail) NoMethod)
 

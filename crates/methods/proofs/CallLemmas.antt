@@ -1,7 +1,7 @@
 -- What is answered, and made of the store and of the sessions, is what was judged: of a refusal, of results, of a Set, an
 -- attempt, an Activate and a Revert.
 use Rattle.std.proofs.Common.{◌≡◌, ℕ, ◌+◌, ◌==◌, true, false, ◌||◌, List, Option, None, refl, sym, subst, ◌∙◌, ap, if◌then◌else◌}
-use Rattle.std.specs.Prelude.{Result, Ok, IfOk, ◌-◌, nat_le, nat_lt}
+use Rattle.std.specs.Prelude.{Result, Ok, Err, IfOk, ◌-◌, nat_le, nat_lt}
 use Rattle.sp_cells.specs.declared.names.Uid.{Uid}
 use Rattle.audit.specs.declared.reason.AttemptFailure.{AttemptFailure}
 use Rattle.audit.specs.declared.rules.rule.Rule.{Rule}

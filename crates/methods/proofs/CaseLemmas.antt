@@ -22,7 +22,7 @@ use Rattle.tcg_calls.specs.declared.call_shapes.ask.Ask.{Ask}
 use Rattle.tcg_calls.specs.declared.call_shapes.ask.Ask.TheVariants.{GetCells, GetBytes, SetCells, SetBytes, Authenticate, Activate, Revert, GenKey, RevertSp, Next, GetAcl, Other}
 use Rattle.tcg_calls.specs.Named.{list_in, value_of, options, number_or, number_if_any, bytes_or_empty, assignments}
 use Rattle.tcg_calls.specs.Parameters.{start_row_parameter, end_row_parameter, start_column_parameter, end_column_parameter, where_parameter, values_parameter, next_where_parameter, next_count_parameter, proof_parameter, keep_global_range_key_parameter}
-use Rattle.tcg_calls.specs.Asks.{uid_of, is_byte_table, cellblock, columns_between, columns_asked_in, is_ordered, rows_between, rows_in, cells_of, cells_to_set, cells_in, bytes_to_set, bytes_in, proof_of, proof_in, attempt_in, without_arguments, get_of, set_of, keep_of, keep_in, row_if_any, rows_behind, next_in, get_acl_of, other_ask_of, ask_of}
+use Rattle.tcg_calls.specs.Asks.{uid_of, uid_in, is_byte_table, cellblock, columns_between, columns_asked_in, is_ordered, rows_between, rows_in, cells_of, cells_to_set, cells_in, bytes_to_set, bytes_in, proof_of, proof_in, attempt_in, without_arguments, get_of, set_of, keep_of, keep_in, row_if_any, rows_asked_behind, next_in, line_asked, get_acl_of, other_ask_of, ask_of}
 use Rattle.methods.specs.declared.kinds.Kind.{Kind}
 use Rattle.methods.specs.declared.kinds.Kind.TheVariants as kinds
 use Rattle.methods.specs.Kinds.{kind_of}
@@ -439,26 +439,25 @@ keep_fits : (o : Option (List (ℕ × Tree))) → Fits (keep_in o) (RevertSp fal
 keep_fits None = tt
 keep_fits (Some ps) = keep_of_fits (number_or 0 (value_of keep_global_range_key_parameter ps))
 
-rows_behind_fit : (after : Option (Option Uid)) (count : Option (Option ℕ)) → Fits (rows_behind after count) (Next None None)
-rows_behind_fit None count = tt
-rows_behind_fit (Some after) None = tt
-rows_behind_fit (Some after) (Some count) = refl
+rows_asked_fit : (after : Option (Option Uid)) (count : Option (Option ℕ)) → Fits (rows_asked_behind after count) (Next None None)
+rows_asked_fit None count = tt
+rows_asked_fit (Some after) None = tt
+rows_asked_fit (Some after) (Some count) = refl
 
 next_fits : (o : Option (List (ℕ × Tree))) → Fits (next_in o) (Next None None)
 next_fits None = tt
-next_fits (Some ps) = rows_behind_fit (row_if_any (value_of next_where_parameter ps)) (number_if_any (value_of next_count_parameter ps))
+next_fits (Some ps) = rows_asked_fit (row_if_any (value_of next_where_parameter ps)) (number_if_any (value_of next_count_parameter ps))
+
+line_fits : (object method : Option Uid) → Fits (line_asked object method) (GetAcl some_uid some_uid)
+line_fits None method = tt
+line_fits (Some object) None = tt
+line_fits (Some object) (Some method) = refl
 
 acl_fits : (args : List Tree) → Fits (get_acl_of args) (GetAcl some_uid some_uid)
 acl_fits [] = tt
-acl_fits (number n ∷ ts) = tt
-acl_fits (list us ∷ ts) = tt
-acl_fits (named n v ∷ ts) = tt
-acl_fits (bytes b ∷ []) = tt
-acl_fits (bytes b ∷ number n ∷ ts) = tt
-acl_fits (bytes b ∷ list us ∷ ts) = tt
-acl_fits (bytes b ∷ named n v ∷ ts) = tt
-acl_fits (bytes b ∷ bytes c ∷ []) = only_if _ (Some (GetAcl (uid_of b) (uid_of c))) (GetAcl some_uid some_uid) refl
-acl_fits (bytes b ∷ bytes c ∷ t ∷ ts) = tt
+acl_fits (object ∷ []) = tt
+acl_fits (object ∷ method ∷ []) = line_fits (uid_in object) (uid_in method)
+acl_fits (object ∷ method ∷ t ∷ ts) = tt
 
 other_fits : (profile : Profile) (method : Uid) (args : List Tree) → Fits (other_ask_of profile method args) (sketch_of_other profile method)
 other_fits Base method args = refl

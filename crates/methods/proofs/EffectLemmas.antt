@@ -5,7 +5,7 @@ use Rattle.audit.specs.declared.rules.rule.Rule.TheVariants.{NotSet}
 use Rattle.sp_cells.specs.declared.names.Uid.{Uid}
 use Rattle.sp_cells.specs.declared.names.Sp.{Sp}
 use Rattle.sp_cells.specs.declared.names.Sp.TheVariants.{Admin, Locking}
-use Rattle.sp_cells.specs.Config.{sizes_in}
+use Rattle.sp_cells.specs.Config.{Config, sizes_in}
 use Rattle.sp_cells.specs.declared.error.SetError.{SetError}
 use Rattle.transactions.specs.declared.change.Change.{Change}
 use Rattle.transactions.specs.declared.change.Change.TheVariants.{Cells, Mbr}
@@ -63,8 +63,8 @@ fault_made (Mbr at bytes) sp s = refl
 fault_here : (s : Stored) (session : SessionId) (change : Change) → has_set (kind_of session.sp (changed_object change)) ≡ true → fault_of_set s session change ≡ fault_of_change s session.sp change
 fault_here s session change e = rw e refl
 
-fault_as : (s : Stored) (session : SessionId) (object : Uid) (ask : Ask) (change : Change) → has_set (kind_of session.sp object) ≡ true → Some (setting_seen change) ≡ setting session.sp (sizes_in s.config) object (kind_of session.sp object) ask → fault_of_set s session change ≡ fault_by s.config.sectors (latest_look s session.sp) session.sp (setting_seen change)
-fault_as s session object ask change h e = fault_here s session change (set_there session.sp (sizes_in s.config) object ask change e h) ∙ fault_made change session.sp s
+fault_as : (s : Stored) (session : SessionId) (object : Uid) (ask : Ask) (change : Change) → has_set (kind_of session.sp object) ≡ true → Some (setting_seen change) ≡ setting s.config.profile session.sp (sizes_in s.config) object (kind_of session.sp object) ask → fault_of_set s session change ≡ fault_by s.config.sectors (latest_look s session.sp) session.sp (setting_seen change)
+fault_as s session object ask change h e = fault_here s session change (set_there s.config.profile session.sp (sizes_in s.config) object ask change e h) ∙ fault_made change session.sp s
 
 -- what a session holds
 pub held_is : (o : Option Holder) (h : List Uid) → Some h ≡ option_map (λ s. s.held) o → h ≡ held_of o
@@ -81,11 +81,11 @@ config_seen Admin n s = refl
 config_seen Locking n s = refl
 
 -- what is set by what a session sees is set by the store
-pub read_setting : (s : Stored) (session : SessionId) (object : Uid) (ask : Ask) (v : Sight) (change : Change) → Some (setting_seen change) ≡ setting session.sp (sizes_in v.config) object (kind_of session.sp object) ask → v ≡ sight_of s session → Some (setting_seen change) ≡ setting session.sp (sizes_in s.config) object (kind_of session.sp object) ask
+pub read_setting : (s : Stored) (session : SessionId) (object : Uid) (ask : Ask) (v : Sight) (change : Change) → Some (setting_seen change) ≡ setting v.config.profile session.sp (sizes_in v.config) object (kind_of session.sp object) ask → v ≡ sight_of s session → Some (setting_seen change) ≡ setting s.config.profile session.sp (sizes_in s.config) object (kind_of session.sp object) ask
 read_setting s session object ask v change read seen =
     read
-    ∙ ap (λ (w : Sight). setting session.sp (sizes_in w.config) object (kind_of session.sp object) ask) seen
-    ∙ ap (λ config. setting session.sp (sizes_in config) object (kind_of session.sp object) ask) (config_seen session.sp session.tsn s)
+    ∙ ap (λ (w : Sight). setting w.config.profile session.sp (sizes_in w.config) object (kind_of session.sp object) ask) seen
+    ∙ ap (λ (config : Config). setting config.profile session.sp (sizes_in config) object (kind_of session.sp object) ask) (config_seen session.sp session.tsn s)
 
 -- an attempt, by its answer: right, wrong, or locked out
 pub right-said : (sp : Sp) (a : Uid) (f : Option AttemptFailure) → Right ≡ answer_to sp a f → (reply_of (number 1 ∷ []) success ≡ attempt_reply f) × (None ≡ attempt_denied sp a f)
@@ -166,15 +166,15 @@ pub stored_refused : (f : SetError) (o : Option SetError) (sp : Sp) (change : Ch
 stored_refused f o sp change s e = ap (λ x. stored_after x sp change s) (sym e)
 
 -- what is set by a Set whose values are read: its setting, unless the change has a fault
-to_set-read : (s : Stored) (session : SessionId) (object : Uid) (ask : Ask) (change : Change) → has_set (kind_of session.sp object) ≡ true → Some (setting_seen change) ≡ setting session.sp (sizes_in s.config) object (kind_of session.sp object) ask → to_set (standing_on Free s session []) object ask ≡ unless_fault (fault_of_set s session change) (setting_seen change)
+to_set-read : (s : Stored) (session : SessionId) (object : Uid) (ask : Ask) (change : Change) → has_set (kind_of session.sp object) ≡ true → Some (setting_seen change) ≡ setting s.config.profile session.sp (sizes_in s.config) object (kind_of session.sp object) ask → to_set (standing_on Free s session []) object ask ≡ unless_fault (fault_of_set s session change) (setting_seen change)
 to_set-read s session object ask change h e =
     sym (ap (valid (standing_on Free s session [])) e)
     ∙ ap (λ o. unless_fault o (setting_seen change)) (sym (fault_as s session object ask change h e))
 
-pub to_set-none : (s : Stored) (session : SessionId) (object : Uid) (ask : Ask) (change : Change) (f : SetError) → has_set (kind_of session.sp object) ≡ true → Some (setting_seen change) ≡ setting session.sp (sizes_in s.config) object (kind_of session.sp object) ask → Some f ≡ fault_of_set s session change → to_set (standing_on Free s session []) object ask ≡ Err (NotSet f)
+pub to_set-none : (s : Stored) (session : SessionId) (object : Uid) (ask : Ask) (change : Change) (f : SetError) → has_set (kind_of session.sp object) ≡ true → Some (setting_seen change) ≡ setting s.config.profile session.sp (sizes_in s.config) object (kind_of session.sp object) ask → Some f ≡ fault_of_set s session change → to_set (standing_on Free s session []) object ask ≡ Err (NotSet f)
 to_set-none s session object ask change f h e made = to_set-read s session object ask change h e ∙ ap (λ o. unless_fault o (setting_seen change)) (sym made)
 
-pub to_set-some : (s : Stored) (session : SessionId) (object : Uid) (ask : Ask) (change : Change) → has_set (kind_of session.sp object) ≡ true → Some (setting_seen change) ≡ setting session.sp (sizes_in s.config) object (kind_of session.sp object) ask → None ≡ fault_of_set s session change → to_set (standing_on Free s session []) object ask ≡ Ok (setting_seen change)
+pub to_set-some : (s : Stored) (session : SessionId) (object : Uid) (ask : Ask) (change : Change) → has_set (kind_of session.sp object) ≡ true → Some (setting_seen change) ≡ setting s.config.profile session.sp (sizes_in s.config) object (kind_of session.sp object) ask → None ≡ fault_of_set s session change → to_set (standing_on Free s session []) object ask ≡ Ok (setting_seen change)
 to_set-some s session object ask change h e made = to_set-read s session object ask change h e ∙ ap (λ o. unless_fault o (setting_seen change)) (sym made)
 
 -- the store that it leaves

@@ -141,5 +141,13 @@ rise_law (Some kinds.MbrTable) = refl
 rise_law (Some kinds.DataStore) = refl
 rise_law (Some kinds.Key) = refl
 rise_law (Some kinds.DataRemoval) = refl
+rise_law (Some kinds.WholeTable) = refl
+rise_law (Some kinds.AccessControl) = refl
+rise_law (Some kinds.ObjectTable) = refl
+rise_law (Some kinds.SpInfo) = refl
+rise_law (Some kinds.SpTemplates) = refl
+rise_law (Some kinds.MethodId) = refl
+rise_law (Some kinds.SecretProtect) = refl
+rise_law (Some kinds.Template) = refl
 
 pub ruleset of_lists = (list_law, rise_law)

@@ -1,5 +1,6 @@
 -- The object that a Set changes is the one that its call names.
 use Rattle.std.proofs.Common.{◌≡◌, ◌+◌, ℕ, Bool, true, false, List, Option, None, Some, refl, ap, ◌∙◌, sym, if◌then◌else◌}
+use Rattle.basics.specs.declared.profile.Profile.{Profile}
 use Rattle.sp_cells.specs.declared.names.Uid.{Uid}
 use Rattle.sp_cells.specs.declared.names.Column.{Column}
 use Rattle.sp_cells.specs.declared.names.Sp.{Sp}
@@ -81,43 +82,59 @@ no_cells o cells Locking n table (Next after count) e = cc
 no_cells o cells Locking n table (GetAcl about what) e = cc
 no_cells o cells Locking n table Other e = cc
 
-cells_of_object : (sp : Sp) (n : TableSizes) (object o : Uid) (cells : List (Column × Cell)) (kind : Option Kind) (ask : Ask) → setting sp n object kind ask ≡ Some (cells_set o cells) → object ≡ o
-cells_of_object sp n object o cells (Some kinds.MbrTable) ask e = absurd (no_cells o cells sp n ShadowMbr ask e)
-cells_of_object sp n object o cells (Some kinds.DataStore) ask e = absurd (no_cells o cells sp n DataStore ask e)
-cells_of_object sp n object o cells (Some kinds.DataRemoval) ask e = asked_there object o cells (set_types_of (Some kinds.DataRemoval)) ask e
-cells_of_object sp n object o cells (Some kinds.ThisSp) ask e = asked_there object o cells (set_types_of (Some kinds.ThisSp)) ask e
-cells_of_object sp n object o cells (Some kinds.Sp) ask e = asked_there object o cells (set_types_of (Some kinds.Sp)) ask e
-cells_of_object sp n object o cells (Some kinds.Authority) ask e = asked_there object o cells (set_types_of (Some kinds.Authority)) ask e
-cells_of_object sp n object o cells (Some kinds.CPin) ask e = asked_there object o cells (set_types_of (Some kinds.CPin)) ask e
-cells_of_object sp n object o cells (Some kinds.Ace) ask e = asked_there object o cells (set_types_of (Some kinds.Ace)) ask e
-cells_of_object sp n object o cells (Some kinds.Locking) ask e = asked_there object o cells (set_types_of (Some kinds.Locking)) ask e
-cells_of_object sp n object o cells (Some kinds.MbrControl) ask e = asked_there object o cells (set_types_of (Some kinds.MbrControl)) ask e
-cells_of_object sp n object o cells (Some kinds.TperInfo) ask e = asked_there object o cells (set_types_of (Some kinds.TperInfo)) ask e
-cells_of_object sp n object o cells (Some kinds.LockingInfo) ask e = asked_there object o cells (set_types_of (Some kinds.LockingInfo)) ask e
-cells_of_object sp n object o cells (Some kinds.Table) ask e = asked_there object o cells (set_types_of (Some kinds.Table)) ask e
-cells_of_object sp n object o cells (Some kinds.Key) ask e = asked_there object o cells (set_types_of (Some kinds.Key)) ask e
-cells_of_object sp n object o cells None ask e = asked_there object o cells (set_types_of None) ask e
+cells_of_object : (profile : Profile) (sp : Sp) (n : TableSizes) (object o : Uid) (cells : List (Column × Cell)) (kind : Option Kind) (ask : Ask) → setting profile sp n object kind ask ≡ Some (cells_set o cells) → object ≡ o
+cells_of_object profile sp n object o cells (Some kinds.MbrTable) ask e = absurd (no_cells o cells sp n ShadowMbr ask e)
+cells_of_object profile sp n object o cells (Some kinds.DataStore) ask e = absurd (no_cells o cells sp n DataStore ask e)
+cells_of_object profile sp n object o cells (Some kinds.DataRemoval) ask e = asked_there object o cells (set_types_of profile (Some kinds.DataRemoval)) ask e
+cells_of_object profile sp n object o cells (Some kinds.ThisSp) ask e = asked_there object o cells (set_types_of profile (Some kinds.ThisSp)) ask e
+cells_of_object profile sp n object o cells (Some kinds.Sp) ask e = asked_there object o cells (set_types_of profile (Some kinds.Sp)) ask e
+cells_of_object profile sp n object o cells (Some kinds.Authority) ask e = asked_there object o cells (set_types_of profile (Some kinds.Authority)) ask e
+cells_of_object profile sp n object o cells (Some kinds.CPin) ask e = asked_there object o cells (set_types_of profile (Some kinds.CPin)) ask e
+cells_of_object profile sp n object o cells (Some kinds.Ace) ask e = asked_there object o cells (set_types_of profile (Some kinds.Ace)) ask e
+cells_of_object profile sp n object o cells (Some kinds.Locking) ask e = asked_there object o cells (set_types_of profile (Some kinds.Locking)) ask e
+cells_of_object profile sp n object o cells (Some kinds.MbrControl) ask e = asked_there object o cells (set_types_of profile (Some kinds.MbrControl)) ask e
+cells_of_object profile sp n object o cells (Some kinds.TperInfo) ask e = asked_there object o cells (set_types_of profile (Some kinds.TperInfo)) ask e
+cells_of_object profile sp n object o cells (Some kinds.LockingInfo) ask e = asked_there object o cells (set_types_of profile (Some kinds.LockingInfo)) ask e
+cells_of_object profile sp n object o cells (Some kinds.Table) ask e = asked_there object o cells (set_types_of profile (Some kinds.Table)) ask e
+cells_of_object profile sp n object o cells (Some kinds.Key) ask e = asked_there object o cells (set_types_of profile (Some kinds.Key)) ask e
+cells_of_object profile sp n object o cells (Some kinds.WholeTable) ask e = asked_there object o cells (set_types_of profile (Some kinds.WholeTable)) ask e
+cells_of_object profile sp n object o cells (Some kinds.AccessControl) ask e = asked_there object o cells (set_types_of profile (Some kinds.AccessControl)) ask e
+cells_of_object profile sp n object o cells (Some kinds.ObjectTable) ask e = asked_there object o cells (set_types_of profile (Some kinds.ObjectTable)) ask e
+cells_of_object profile sp n object o cells (Some kinds.SpInfo) ask e = asked_there object o cells (set_types_of profile (Some kinds.SpInfo)) ask e
+cells_of_object profile sp n object o cells (Some kinds.SpTemplates) ask e = asked_there object o cells (set_types_of profile (Some kinds.SpTemplates)) ask e
+cells_of_object profile sp n object o cells (Some kinds.MethodId) ask e = asked_there object o cells (set_types_of profile (Some kinds.MethodId)) ask e
+cells_of_object profile sp n object o cells (Some kinds.SecretProtect) ask e = asked_there object o cells (set_types_of profile (Some kinds.SecretProtect)) ask e
+cells_of_object profile sp n object o cells (Some kinds.Template) ask e = asked_there object o cells (set_types_of profile (Some kinds.Template)) ask e
+cells_of_object profile sp n object o cells None ask e = asked_there object o cells (set_types_of profile None) ask e
 
 -- no bytes are set in the Admin SP
-bytes_of_locking : (n : TableSizes) (object : Uid) (at : ℕ) (bs : List ℕ) (kind : Option Kind) (ask : Ask) → setting Admin n object kind ask ≡ Some (bytes_set at bs) → ⊥
-bytes_of_locking n object at bs (Some kinds.MbrTable) ask e = cc
-bytes_of_locking n object at bs (Some kinds.DataStore) ask e = cc
-bytes_of_locking n object at bs (Some kinds.DataRemoval) ask e = no_bytes object at bs (set_types_of (Some kinds.DataRemoval)) ask e
-bytes_of_locking n object at bs (Some kinds.ThisSp) ask e = no_bytes object at bs (set_types_of (Some kinds.ThisSp)) ask e
-bytes_of_locking n object at bs (Some kinds.Sp) ask e = no_bytes object at bs (set_types_of (Some kinds.Sp)) ask e
-bytes_of_locking n object at bs (Some kinds.Authority) ask e = no_bytes object at bs (set_types_of (Some kinds.Authority)) ask e
-bytes_of_locking n object at bs (Some kinds.CPin) ask e = no_bytes object at bs (set_types_of (Some kinds.CPin)) ask e
-bytes_of_locking n object at bs (Some kinds.Ace) ask e = no_bytes object at bs (set_types_of (Some kinds.Ace)) ask e
-bytes_of_locking n object at bs (Some kinds.Locking) ask e = no_bytes object at bs (set_types_of (Some kinds.Locking)) ask e
-bytes_of_locking n object at bs (Some kinds.MbrControl) ask e = no_bytes object at bs (set_types_of (Some kinds.MbrControl)) ask e
-bytes_of_locking n object at bs (Some kinds.TperInfo) ask e = no_bytes object at bs (set_types_of (Some kinds.TperInfo)) ask e
-bytes_of_locking n object at bs (Some kinds.LockingInfo) ask e = no_bytes object at bs (set_types_of (Some kinds.LockingInfo)) ask e
-bytes_of_locking n object at bs (Some kinds.Table) ask e = no_bytes object at bs (set_types_of (Some kinds.Table)) ask e
-bytes_of_locking n object at bs (Some kinds.Key) ask e = no_bytes object at bs (set_types_of (Some kinds.Key)) ask e
-bytes_of_locking n object at bs None ask e = no_bytes object at bs (set_types_of None) ask e
+bytes_of_locking : (profile : Profile) (n : TableSizes) (object : Uid) (at : ℕ) (bs : List ℕ) (kind : Option Kind) (ask : Ask) → setting profile Admin n object kind ask ≡ Some (bytes_set at bs) → ⊥
+bytes_of_locking profile n object at bs (Some kinds.MbrTable) ask e = cc
+bytes_of_locking profile n object at bs (Some kinds.DataStore) ask e = cc
+bytes_of_locking profile n object at bs (Some kinds.DataRemoval) ask e = no_bytes object at bs (set_types_of profile (Some kinds.DataRemoval)) ask e
+bytes_of_locking profile n object at bs (Some kinds.ThisSp) ask e = no_bytes object at bs (set_types_of profile (Some kinds.ThisSp)) ask e
+bytes_of_locking profile n object at bs (Some kinds.Sp) ask e = no_bytes object at bs (set_types_of profile (Some kinds.Sp)) ask e
+bytes_of_locking profile n object at bs (Some kinds.Authority) ask e = no_bytes object at bs (set_types_of profile (Some kinds.Authority)) ask e
+bytes_of_locking profile n object at bs (Some kinds.CPin) ask e = no_bytes object at bs (set_types_of profile (Some kinds.CPin)) ask e
+bytes_of_locking profile n object at bs (Some kinds.Ace) ask e = no_bytes object at bs (set_types_of profile (Some kinds.Ace)) ask e
+bytes_of_locking profile n object at bs (Some kinds.Locking) ask e = no_bytes object at bs (set_types_of profile (Some kinds.Locking)) ask e
+bytes_of_locking profile n object at bs (Some kinds.MbrControl) ask e = no_bytes object at bs (set_types_of profile (Some kinds.MbrControl)) ask e
+bytes_of_locking profile n object at bs (Some kinds.TperInfo) ask e = no_bytes object at bs (set_types_of profile (Some kinds.TperInfo)) ask e
+bytes_of_locking profile n object at bs (Some kinds.LockingInfo) ask e = no_bytes object at bs (set_types_of profile (Some kinds.LockingInfo)) ask e
+bytes_of_locking profile n object at bs (Some kinds.Table) ask e = no_bytes object at bs (set_types_of profile (Some kinds.Table)) ask e
+bytes_of_locking profile n object at bs (Some kinds.Key) ask e = no_bytes object at bs (set_types_of profile (Some kinds.Key)) ask e
+bytes_of_locking profile n object at bs (Some kinds.WholeTable) ask e = no_bytes object at bs (set_types_of profile (Some kinds.WholeTable)) ask e
+bytes_of_locking profile n object at bs (Some kinds.AccessControl) ask e = no_bytes object at bs (set_types_of profile (Some kinds.AccessControl)) ask e
+bytes_of_locking profile n object at bs (Some kinds.ObjectTable) ask e = no_bytes object at bs (set_types_of profile (Some kinds.ObjectTable)) ask e
+bytes_of_locking profile n object at bs (Some kinds.SpInfo) ask e = no_bytes object at bs (set_types_of profile (Some kinds.SpInfo)) ask e
+bytes_of_locking profile n object at bs (Some kinds.SpTemplates) ask e = no_bytes object at bs (set_types_of profile (Some kinds.SpTemplates)) ask e
+bytes_of_locking profile n object at bs (Some kinds.MethodId) ask e = no_bytes object at bs (set_types_of profile (Some kinds.MethodId)) ask e
+bytes_of_locking profile n object at bs (Some kinds.SecretProtect) ask e = no_bytes object at bs (set_types_of profile (Some kinds.SecretProtect)) ask e
+bytes_of_locking profile n object at bs (Some kinds.Template) ask e = no_bytes object at bs (set_types_of profile (Some kinds.Template)) ask e
+bytes_of_locking profile n object at bs None ask e = no_bytes object at bs (set_types_of profile None) ask e
 
 -- where the object that a call names has Set, the object of what it sets has it
-pub set_there : (sp : Sp) (n : TableSizes) (object : Uid) (ask : Ask) (change : Change) → Some (setting_seen change) ≡ setting sp n object (kind_of sp object) ask → has_set (kind_of sp object) ≡ true → has_set (kind_of sp (changed_object change)) ≡ true
-set_there sp n object ask (Cells o cells) e h = ap (λ u. has_set (kind_of sp u)) (sym (cells_of_object sp n object o cells.items (kind_of sp object) ask (sym e))) ∙ h
-set_there Admin n object ask (Mbr at bs) e h = absurd (bytes_of_locking n object at bs.items (kind_of Admin object) ask (sym e))
-set_there Locking n object ask (Mbr at bs) e h = refl
+pub set_there : (profile : Profile) (sp : Sp) (n : TableSizes) (object : Uid) (ask : Ask) (change : Change) → Some (setting_seen change) ≡ setting profile sp n object (kind_of sp object) ask → has_set (kind_of sp object) ≡ true → has_set (kind_of sp (changed_object change)) ≡ true
+set_there profile sp n object ask (Cells o cells) e h = ap (λ u. has_set (kind_of sp u)) (sym (cells_of_object profile sp n object o cells.items (kind_of sp object) ask (sym e))) ∙ h
+set_there profile Admin n object ask (Mbr at bs) e h = absurd (bytes_of_locking profile n object at bs.items (kind_of Admin object) ask (sym e))
+set_there profile Locking n object ask (Mbr at bs) e h = refl

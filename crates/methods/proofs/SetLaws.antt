@@ -1,6 +1,8 @@
 -- A Set sets cells of its own object alone, in columns that Set takes of the object's kind.
 use Rattle.std.proofs.Common.{◌≡◌, ◌==◌, ℕ, Bool, true, false, List, [], ◌∷◌, Option, None, Some, refl, sym, ◌∙◌, ap, subst, ◌⊎◌, inl, inr, if◌then◌else◌, eqb-true}
 use Rattle.basics.specs.declared.profile.Profile.{Profile}
+use Rattle.basics.specs.declared.profile.Profile.TheVariants.{Base, Field, Opal}
+use Rattle.sp_cells.specs.ColumnNames.{pin_column}
 use Rattle.std.specs.Prelude.{is_some, Ok}
 use Rattle.std.specs.List.{list_all, filter_map, cons_option}
 use Rattle.sp_cells.specs.declared.names.Uid.{Uid}
@@ -127,8 +129,15 @@ set_there profile sp n object target cells None ask is = asked_there object targ
 pub set_law : SetLaw
 set_law profile sp n object target ask cells is = set_there profile sp n object target cells (kind_of sp object) ask is
 
+pin_columns : (profile : Profile) → set_columns_of profile (Some kinds.CPin) ≡ pin_column ∷ []
+pin_columns Base = refl
+pin_columns Field = refl
+pin_columns Opal = refl
+
 pub pin_law : PinLaw
-pin_law profile sp n object target ask cells kind is = subst (λ (k : Option Kind). SetsOnly object (set_columns_of profile k) target cells) kind (set_law profile sp n object target ask cells is)
+pin_law profile sp n object target ask cells kind is =
+    subst (λ (columns : List Column). SetsOnly object columns target cells) (pin_columns profile)
+    (subst (λ (k : Option Kind). SetsOnly object (set_columns_of profile k) target cells) kind (set_law profile sp n object target ask cells is))
 
 -- a setting that is valid is the one that was asked for
 fault_there : (fault : Option SetError) (st asked : Setting) → unless_fault fault asked ≡ Ok st → Some asked ≡ Some st

@@ -16,6 +16,7 @@ use Rattle.audit.specs.declared.rules.rule.Rule.TheVariants as rules
 use Rattle.tcg_tokens.specs.Tree.{Tree}
 use Rattle.tcg_calls.specs.Asks.{uid_in}
 use Rattle.tcg_calls.specs.CellValues.{number_in}
+use Rattle.basics.specs.declared.profile.Profile.{Profile}
 use Rattle.sessions.specs.Starts.{is_host, opening_of}
 use Rattle.reasons.specs.declared.explained.onset.Counted.{Counted}
 use Rattle.reasons.specs.declared.explained.onset.Source.{Source}
@@ -164,4 +165,5 @@ details_text counted seen lives payload (Some rule) = detail_text counted seen l
 -- What is told of a StartSession is so: with such an argument it asks for nothing.
 abbrev pub StartFaultLaw : Type 0
 StartFaultLaw =
-    (args : List Tree) (fault : StartFault) → start_fault args ≡ Some fault → opening_of args ≡ None
+    (profile : Profile) (args : List Tree) (fault : StartFault) → start_fault args ≡ Some fault
+    → opening_of profile args ≡ None

@@ -1,6 +1,8 @@
 -- StartSession and its answer (Core 2.01, sections 5.2.3.1 and 5.2.3.2; the order of refusals is this drive's own).
-use Rattle.std.specs.Prelude.{◌==◌, ◌+◌, ◌^◌, nat_lt, ℕ, Bool, ◌&&◌, not, List, [], ◌∷◌, Option, None, Some, is_some, if◌then◌else◌}
+use Rattle.std.specs.Prelude.{◌==◌, ◌+◌, ◌^◌, nat_lt, ℕ, Bool, true, false, ◌&&◌, not, List, [], ◌∷◌, Option, None, Some, is_some, if◌then◌else◌}
 use Rattle.std.specs.Int.{w64, to_be_bytes}
+use Rattle.basics.specs.declared.profile.Profile.{Profile}
+use Rattle.basics.specs.declared.profile.Profile.TheVariants.{Base, Field, Opal}
 use Rattle.tcg_tokens.specs.Tree.{Tree, number, trees_of}
 use Rattle.tcg_tokens.specs.Message.{Message, call}
 use Rattle.sp_cells.specs.declared.names.Sp.{Sp}
@@ -59,14 +61,45 @@ opening_from (Some host) (Some spid) (Some writes) named =
     if is_host host && (writes == 1) then opening_named host spid named else None
 opening_from _ _ _ named = None
 
--- what a StartSession asks: the host's number, the SP, Write, and at most a challenge and a signing authority
-abbrev pub opening_of : List Tree → Option Opening
-opening_of [] = None
-opening_of (h ∷ []) = None
-opening_of (h ∷ p ∷ []) = None
-opening_of (h ∷ p ∷ w ∷ rest) =
-    opening_from (number_in h) (uid_in p) (number_in w)
-    (options (host_challenge_parameter ∷ host_signing_authority_parameter ∷ []) rest)
+-- the number that names SessionTimeout, the milliseconds after which a host asks for the session to end where nothing is sent
+-- (Core 2.01, section 5.2.3.1); it has 32 bits, and changes nothing (this drive)
+abbrev pub session_timeout_parameter : ℕ
+session_timeout_parameter = 5
+
+abbrev pub is_timeout : Option ℕ → Bool
+is_timeout None = false
+is_timeout (Some n) = nat_lt n (2 ^ 32)
+
+abbrev pub is_timeout_if_any : Option Tree → Bool
+is_timeout_if_any None = true
+is_timeout_if_any (Some t) = is_timeout (number_in t)
+
+-- what is assigned, where SessionTimeout is a number of 32 bits or absent
+abbrev pub timed : Option (List (ℕ × Tree)) → Option (List (ℕ × Tree))
+timed None = None
+timed (Some ps) = if is_timeout_if_any (value_of session_timeout_parameter ps) then Some ps
+    else None
+
+-- the optional parameters that a StartSession has under a profile
+abbrev pub start_parameters : List ℕ
+start_parameters = host_challenge_parameter ∷ host_signing_authority_parameter ∷ []
+
+abbrev pub opal_start_parameters : List ℕ
+opal_start_parameters = host_challenge_parameter ∷ host_signing_authority_parameter
+    ∷ session_timeout_parameter ∷ []
+
+abbrev pub start_options : Profile → List Tree → Option (List (ℕ × Tree))
+start_options Base rest = options start_parameters rest
+start_options Field rest = options start_parameters rest
+start_options Opal rest = timed (options opal_start_parameters rest)
+
+-- what a StartSession asks: the host's number, the SP, Write, and at most each of its optional parameters
+abbrev pub opening_of : Profile → List Tree → Option Opening
+opening_of profile [] = None
+opening_of profile (h ∷ []) = None
+opening_of profile (h ∷ p ∷ []) = None
+opening_of profile (h ∷ p ∷ w ∷ rest) =
+    opening_from (number_in h) (uid_in p) (number_in w) (start_options profile rest)
 
 -- the SP that a name names
 abbrev pub sp_named : Uid → Option Sp
@@ -179,23 +212,23 @@ opening_verdict s l o = verdict (rows_in_force s) l (Some o)
 
 -- what a StartSession with these arguments comes to, by the rows in force and the sessions that live
 abbrev pub start_verdict : Stored → Live → List Tree → StartVerdict
-start_verdict s l args = verdict (rows_in_force s) l (opening_of args)
+start_verdict s l args = verdict (rows_in_force s) l (opening_of s.config.profile args)
 
 -- its answer, why it was denied, which rule refused it, the store and the session of each number after it, and the next number
 abbrev pub start_reply : Stored → Live → List Tree → Message
 start_reply s l args = reply_to (host_of args) l.next (start_verdict s l args)
 
 abbrev pub start_denied : Stored → Live → List Tree → Option Why
-start_denied s l args = denied_with (opening_of args) (start_verdict s l args)
+start_denied s l args = denied_with (opening_of s.config.profile args) (start_verdict s l args)
 
 abbrev pub start_rule : Stored → Live → List Tree → Option Rule
 start_rule s l args = rule_of (start_verdict s l args)
 
 abbrev pub start_stored : Stored → Live → List Tree → Stored
-start_stored s l args = stored_with (opening_of args) (start_verdict s l args) s
+start_stored s l args = stored_with (opening_of s.config.profile args) (start_verdict s l args) s
 
 abbrev pub start_at : Stored → Live → ℕ → List Tree → ℕ → Option Holder
-start_at s l com_id args n = begun_with (rows_in_force s) com_id (opening_of args)
+start_at s l com_id args n = begun_with (rows_in_force s) com_id (opening_of s.config.profile args)
     (start_verdict s l args) (l.next == n) (session_at l n)
 
 abbrev pub start_next : Stored → Live → List Tree → ℕ

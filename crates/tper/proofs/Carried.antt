@@ -35,6 +35,8 @@ use Rattle.sessions.specs.declared.opening.StartVerdict.TheVariants.{Refused, At
 use Rattle.sessions.specs.Answers.{rows_in_force}
 use Rattle.sessions.specs.Attempts.{attempt_failure}
 use Rattle.sessions.specs.Live.{Live, lives_on}
+use Rattle.basics.specs.declared.profile.Profile.{Profile}
+use Rattle.basics.specs.declared.profile.Profile.TheVariants.{Base, Field, Opal}
 use Rattle.sessions.specs.Properties.{takes_properties, properties_list, properties_call, properties_message}
 use Rattle.sessions.specs.Starts.{sp_named, is_in_use, is_full, is_host, opening_verdict_on, verdict, opening_of, host_among, host_of, sync_message, reply_to, start_reply}
 use Rattle.methods.specs.Said.{reply_of, attempt_reply}
@@ -263,17 +265,19 @@ opening_answered look l host None h = sync_carried host 0 invalid_parameter h (o
 opening_answered look l host (Some o) h = named_answered look l host o (sp_named o.spid) h
 
 pub start_carried : (s : Stored) (l : Live) (args : List Tree) → is_carried (start_reply s l args) ≡ true
-start_carried s l args = opening_answered (rows_in_force s) l (host_of args) (opening_of args) (host_of_bound args)
+start_carried s l args = opening_answered (rows_in_force s) l (host_of args) (opening_of s.config.profile args) (host_of_bound args)
 
 -- ---- Properties
 
-properties_either : (b : Bool) → is_carried (cond b (properties_call (list (trees_of properties_list) ∷ []) success) (properties_call [] invalid_parameter)) ≡ true
+properties_either : (profile : Profile) (b : Bool) → is_carried (cond b (properties_call (list (trees_of (properties_list profile)) ∷ []) success) (properties_call [] invalid_parameter)) ≡ true
 unfolding number_spelling bytes_spelling
-properties_either true = refl
-properties_either false = refl
+properties_either Base true = refl
+properties_either Field true = refl
+properties_either Opal true = refl
+properties_either profile false = refl
 
-pub properties_carried : (args : List Tree) → is_carried (properties_message args) ≡ true
-properties_carried args = properties_either (takes_properties args)
+pub properties_carried : (profile : Profile) (args : List Tree) → is_carried (properties_message profile args) ≡ true
+properties_carried profile args = properties_either profile (takes_properties args)
 
 -- ---- the other items
 

@@ -45,7 +45,7 @@ with-verdict (Some o) v s = by-verdict o.authority v s
 
 pub start_config : (s : Stored) (l : Live) (args : List Tree)
     → (start_stored s l args).config ≡ s.config
-start_config s l args = with-verdict (opening_of args) (start_verdict s l args) s
+start_config s l args = with-verdict (opening_of s.config.profile args) (start_verdict s l args) s
 
 -- ---- what a deed makes of a store
 

@@ -101,7 +101,8 @@ fn call_manager(
     ensures config { store.new.config ≡ store.old.config }
 {
     if uid_of(&call.object) == Uid::SESSION_MANAGER && uid_of(&call.method) == Uid::PROPERTIES {
-        return Ok(answer(sessions.properties(call)?, None, false));
+        let profile = store.committed().config().profile();
+        return Ok(answer(sessions.properties(profile, call)?, None, false));
     }
     if uid_of(&call.object) == Uid::SESSION_MANAGER && uid_of(&call.method) == Uid::START_SESSION {
         let started = sessions.start(store, com_id, call)?;

@@ -5,6 +5,7 @@ ghost use Rattle.tcg_tokens.specs.Tree.{Tree};
 ghost use Rattle.tcg_calls.specs.Carried.{is_carried};
 ghost use Rattle.transactions.specs.Stored.{Stored};
 ghost use Rattle.sessions.specs.Live.{Live};
+ghost use Rattle.basics.specs.declared.profile.Profile.{Profile};
 ghost use Rattle.sessions.specs.Properties.{properties_message, max_com_packet_size, max_packet_size};
 ghost use Rattle.compacket.specs.declared.headers.TheConstants.{COM_PACKET_HEADER, MAX_COM_PACKET};
 ghost use Rattle.sessions.specs.Starts.{start_reply};
@@ -26,7 +27,8 @@ pub fn laws_of_answers()
         → is_carried (outcome_of rows sp (judged its object method ask)).said ≡ true }
     ensures start { (s : Stored) (l : Live) (args : List Tree)
         → is_carried (start_reply s l args) ≡ true }
-    ensures properties { (args : List Tree) → is_carried (properties_message args) ≡ true }
+    ensures properties { (profile : Profile) (args : List Tree)
+        → is_carried (properties_message profile args) ≡ true }
 {}
 
 /// What Properties tells of sizes is what ComPackets have: at most so many bytes, less the ComPacket's header in a packet.

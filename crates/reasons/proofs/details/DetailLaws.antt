@@ -9,11 +9,9 @@ use Rattle.reasons.specs.Asked.{meets_place, met_from, is_long, MetLaw, LongLaw}
 use Rattle.std.specs.Prelude.{is_some}
 use Rattle.sp_cells.specs.declared.names.Uid.{Uid}
 use Rattle.tcg_tokens.specs.Tree.{Tree}
-use Rattle.tcg_calls.specs.Parameters.{host_challenge_parameter, host_signing_authority_parameter}
-use Rattle.tcg_calls.specs.Named.{options}
 use Rattle.tcg_calls.specs.Asks.{uid_in}
 use Rattle.tcg_calls.specs.CellValues.{number_in}
-use Rattle.sessions.specs.Starts.{is_host, opening_named, opening_from, opening_of}
+use Rattle.sessions.specs.Starts.{is_host, start_options, opening_named, opening_from, opening_of}
 use Rattle.reasons.specs.declared.details.StartFault.{StartFault}
 use Rattle.reasons.specs.declared.details.StartFault.TheVariants as faults
 use Rattle.reasons.specs.Details.{writes_fault, is_host_number, start_fault, StartFaultLaw}
@@ -33,12 +31,12 @@ starts-by (Some host) (Some spid) (Some writes) named fault e = by_tests (is_hos
     by_tests false b e = refl
 
 pub starts : StartFaultLaw
-starts [] fault e = refl
-starts (host ∷ []) fault e = refl
-starts (host ∷ spid ∷ []) fault e = refl
-starts (host ∷ spid ∷ writes ∷ rest) fault e =
+starts profile [] fault e = refl
+starts profile (host ∷ []) fault e = refl
+starts profile (host ∷ spid ∷ []) fault e = refl
+starts profile (host ∷ spid ∷ writes ∷ rest) fault e =
     starts-by (number_in host) (uid_in spid) (number_in writes)
-    (options (host_challenge_parameter ∷ host_signing_authority_parameter ∷ []) rest) fault e
+    (start_options profile rest) fault e
 
 -- the range that is found is met
 

@@ -9,7 +9,7 @@ use Rattle.tper.proofs.Items.{carried-as, start-met}
 use Rattle.tper.proofs.item.call_manager.Goals as goal
 
 pub returns-then-eq-2-clause-carried : goal.returns-then-eq-2-clause-carried
-returns-then-eq-2-clause-carried c = carried-as _ _ (c.answer.ensures.reply ∙ c.in_ok-properties.ensures) (properties_carried (map tree c.args.call.now.args.items))
+returns-then-eq-2-clause-carried c = carried-as _ _ (c.answer.ensures.reply ∙ c.in_ok-properties.ensures) (properties_carried _ (map tree c.args.call.now.args.items))
 
 pub returns-then-eq-4-clause-met : goal.returns-then-eq-4-clause-met
 returns-then-eq-4-clause-met c =
