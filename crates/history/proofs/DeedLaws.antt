@@ -244,6 +244,8 @@ record IsOfSp (ask : Ask) (profile : Profile) (method : Uid) : Type 0 where
 revert-sp-is : (profile : Profile) (ask : Ask) (method : Uid) → is_own profile ask method ≡ true → ask_kind ask ≡ 7 → IsOfSp ask profile method
 revert-sp-is profile (RevertSp keep) method own h = let f = own-of-field profile revert_sp method own in record { keep = keep; is = refl; field = f.0; named = f.1 }
 revert-sp-is profile GenKey method own h = cc
+revert-sp-is profile (Next after count) method own h = cc
+revert-sp-is profile (GetAcl about what) method own h = cc
 revert-sp-is profile (GetCells a b) method own h = cc
 revert-sp-is profile (GetBytes a b) method own h = cc
 revert-sp-is profile (SetCells a) method own h = cc

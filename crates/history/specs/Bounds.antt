@@ -6,7 +6,7 @@ use Rattle.std.specs.Prelude.{◌≡◌, ℕ, ◌*◌, ◌≤◌, ◌<◌, false
 use Rattle.sp_cells.specs.declared.names.Sp.{Sp}
 use Rattle.sp_cells.specs.declared.names.Uid.{Uid}
 use Rattle.sp_cells.specs.declared.names.Column.{Column}
-use Rattle.sp_cells.specs.ColumnNames.{credential_column, recommended_access_granularity_column}
+use Rattle.sp_cells.specs.ColumnNames.{credential_column, recommended_access_granularity_column, log_to_column}
 use Rattle.sp_cells.specs.Config.{Config, table_sectors}
 use Rattle.sp_tables.specs.Contents.{cells_look_up}
 use Rattle.shadow_mbr.specs.Stored.{sector_size, zeros}
@@ -40,7 +40,7 @@ CellLaw =
 abbrev pub last_column : Profile → Column
 last_column Base = credential_column
 last_column Field = recommended_access_granularity_column
-last_column Opal = recommended_access_granularity_column
+last_column Opal = log_to_column
 
 abbrev pub HasNoColumn : Origin → Column → Type 0
 HasNoColumn o column = (sp : Sp) (object : Uid) → IsNowhere o sp object column

@@ -1,7 +1,7 @@
 -- Changes of the store, and what they set.
 use Rattle.std.proofs.Common.{◌≡◌, ◌<◌, ◌+◌, ℕ, zero, suc, Bool, true, false, List, length, Option, None, Some, refl, ap, ◌∙◌, sym, arith, is_some, [], ◌∷◌, option_map, if◌then◌else◌}
 use Rattle.std.specs.Prelude.{slice_index, Ok, Err}
-use Rattle.audit.specs.declared.rules.rule.Rule.TheVariants.{NotSet}
+use Rattle.audit.specs.declared.rules.rule.Rule.TheVariants.{NotSet, WrongValue}
 use Rattle.sp_cells.specs.declared.names.Uid.{Uid}
 use Rattle.sp_cells.specs.declared.names.Sp.{Sp}
 use Rattle.sp_cells.specs.declared.names.Sp.TheVariants.{Admin, Locking}
@@ -86,6 +86,15 @@ read_setting s session object ask v change read seen =
     read
     ∙ ap (λ (w : Sight). setting w.config.profile session.sp (sizes_in w.config) object (kind_of session.sp object) ask) seen
     ∙ ap (λ (config : Config). setting config.profile session.sp (sizes_in config) object (kind_of session.sp object) ask) (config_seen session.sp session.tsn s)
+
+-- and what is none by what it sees is none by the store
+pub none_setting : (s : Stored) (session : SessionId) (object : Uid) (ask : Ask) (v : Sight) (o : Option Change) → o ≡ None → option_map setting_seen o ≡ setting v.config.profile session.sp (sizes_in v.config) object (kind_of session.sp object) ask → v ≡ sight_of s session → to_set (standing_on Free s session []) object ask ≡ Err WrongValue
+none_setting s session object ask v o none read seen =
+    ap (valid (standing_on Free s session []))
+    (sym (sym (ap (option_map setting_seen) none)
+    ∙ read
+    ∙ ap (λ (w : Sight). setting w.config.profile session.sp (sizes_in w.config) object (kind_of session.sp object) ask) seen
+    ∙ ap (λ (config : Config). setting config.profile session.sp (sizes_in config) object (kind_of session.sp object) ask) (config_seen session.sp session.tsn s)))
 
 -- an attempt, by its answer: right, wrong, or locked out
 pub right-said : (sp : Sp) (a : Uid) (f : Option AttemptFailure) → Right ≡ answer_to sp a f → (reply_of (number 1 ∷ []) success ≡ attempt_reply f) × (None ≡ attempt_denied sp a f)

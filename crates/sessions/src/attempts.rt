@@ -16,12 +16,7 @@ pub(crate) fn is_known(sp: Sp, authority: Uid) -> bool
     match sp {
         Sp::Admin => matches!(
             authority,
-            Uid::ANYBODY
-                | Uid::SID
-                | Uid::PSID
-                | Uid::ADMINS
-                | Uid::MAKERS
-                | Uid::ADMIN_SP_ADMIN
+            Uid::ANYBODY | Uid::SID | Uid::PSID | Uid::ADMINS | Uid::MAKERS | Uid::ADMIN_SP_ADMIN
         ),
         Sp::Locking => is_locking_authority(authority),
     }
