@@ -111,10 +111,10 @@ row_get_acl : (replies opal (acl_of admin_sp revert) ≡ started ∷ named_uids 
 unfolding label_authorities opal_authorities opal_pins opal_admin_aces admin_constants label_pins label_aces removal_aces data_removals datastore_aces gen_key_aces opal_locking_aces locking_constants range_keys locking_infos byte_tables label_grants removal_grants datastore_grants gen_key_ace_grants info_grants key_grants admin_sps admin_authorities locking_authorities admin_pins locking_pins locking_ranges locking_mbr_controls admin_aces authority_aces pin_aces range_get_aces range_aces mbr_aces this_sp_grants owner_grants authority_grants fixed_ace_gets user_ace_grants read_locked_ace_grants write_locked_ace_grants done_ace_grants pin_grants range_get_ace_grants range_get_grants range_set_grants mbr_grants first_lexeme expect number_at uid_at values_up_to list_with list_value_with named_with value_after_token list_at status_at call_at reply_at message_at message_in number_spelling bytes_spelling any_below ranges_in verdict_of is_range listed_among cells_for zeros sectors_from authorities_of_locking any_to own_grants listed_grants told_grants method_grants maker_grants name_grants mode_grants listed_tables field opal
 row_get_acl = (refl, refl, refl)
 
--- A payload, for the session of this number of host number 1, or for none.
+-- A payload, in two blocks, for a session or for none.
 abbrev payload : (tsn hsn : ℕ) → List ℕ → List Act
 payload tsn hsn tokens =
-    Accept (fis 0x5f 1 0x100000 1) (sized 512 (frame_bytes 0x1000 (record { tsn = tsn; hsn = hsn }) tokens)) ∷ receive 0x1000 2 ∷ []
+    Accept (fis 0x5f 1 0x100000 2) (sized 1024 (frame_bytes 0x1000 (record { tsn = tsn; hsn = hsn }) tokens)) ∷ receive 0x1000 2 ∷ []
 
 abbrev broken : List ℕ → List Act
 broken tokens = tell 0x1000 0 0 (start_anybody admin_sp) ++ payload 0x1000 1 tokens ++ in_it (get_cells c_pin_msid 5 5)
@@ -148,7 +148,7 @@ abbrev signed_in : List Act
 signed_in = tell 0x1000 0 0 (start_as locking_sp (admin_uid 1) msid)
 
 abbrev sets : Uid → ℕ → Tree → List Act
-sets object column value = signed_in ++ in_it (set_cells object ((column, value) ∷ []))
+sets object column value = signed_in ++ payload 0x1000 1 (said (set_cells object ((column, value) ∷ [])))
 
 abbrev taken : List (List ℕ)
 taken = started ∷ said (refusal_of 0) ∷ []
