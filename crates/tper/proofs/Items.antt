@@ -3,7 +3,7 @@ use Rattle.history.specs.History.{log}
 use Rattle.tcg_tokens.specs.Reading.{reading as message_in}
 use Rattle.sp_cells.specs.Config.{Config}
 use Rattle.std.proofs.Common.{◌≡◌, ◌==◌, ℕ, true, false, List, Option, None, Some, refl, sym, subst, ◌∙◌, ap, Bool, eqb-true, if◌then◌else◌}
-use Rattle.std.specs.Prelude.{Result, Err, map, option_map, Ok}
+use Rattle.std.specs.Prelude.{zero, suc, Result, Err, map, option_map, Ok}
 use Rattle.sp_cells.specs.declared.names.Uid.{Uid}
 use Rattle.sp_cells.specs.Names.{session_manager, start_session}
 use Rattle.tcg_tokens.specs.declared.error.TokenError.{TokenError}
@@ -18,7 +18,7 @@ use Rattle.tcg_calls.specs.Carried.{is_carried}
 use Rattle.tcg_calls.specs.Named.{values_of}
 use Rattle.tcg_calls.proofs.call_shapes.NamedLemmas.{values_trees}
 use Rattle.transactions.specs.declared.change.SessionId.{SessionId}
-use Rattle.transactions.specs.Stored.{Transaction, Stored, part, at_part, is_open, part_commit}
+use Rattle.transactions.specs.Stored.{Transaction, Stored, part, at_part, is_open, part_commit, part_close}
 use Rattle.shadow_mbr.specs.declared.erasure.Erasure.{Erasure}
 use Rattle.shadow_mbr.specs.Erasure.{no_sectors}
 use Rattle.sessions.specs.Answers.{rows_in_force}
@@ -225,6 +225,34 @@ commits session number said s t live zeroed shown made reply denied rule erases 
     commits-here o (log o acts) its number said s t live ks zeroed
     (subst (λ (x : SessionId). is_open (part s x.sp).pending x.tsn ≡ false → ⊥) same shown)
     (subst (λ (x : SessionId). t ≡ at_part x.sp (part_commit x.tsn) s) same made)
+    reply denied rule erases
+
+-- and any other number aborts
+aborts-here : (o : Origin) (past : List Event) (its : Begun) (number : ℕ) (said : Answered) (s t : Stored) (live : Live) → KeepsStore s o past → (number ≡ 0 → ⊥)
+    → (is_open (part s its.sp).pending its.number ≡ false → ⊥) → t ≡ at_part its.sp part_close s
+    → message said.reply ≡ end 1 → said.denied ≡ None → said.rule ≡ None → said.erases ≡ no_sectors
+    → AnswersAs (ends_on its.sp number (has_open (facts o past) its)) said s t live live
+aborts-here o past its zero said s t live ks some shown made reply denied rule erases = absurd (some refl)
+aborts-here o past its (suc n) said s t live ks some shown made reply denied rule erases =
+    subst (λ (b : Bool). AnswersAs (ends_on its.sp (suc n) b) said s t live live) (sym (has-open o past s its true ks (not-false _ shown)))
+    (record {
+      answer = reply;
+      denied = denied;
+      rule = rule;
+      erases = erases;
+      store = made;
+      sessions = record { next = refl; at = λ n. refl };
+      block = refl;
+    })
+
+pub aborts : (session : SessionId) (number : ℕ) (said : Answered) (s t : Stored) (live : Live) → (number ≡ 0 → ⊥)
+    → (is_open (part s session.sp).pending session.tsn ≡ false → ⊥) → t ≡ at_part session.sp part_close s
+    → message said.reply ≡ end 1 → said.denied ≡ None → said.rule ≡ None → said.erases ≡ no_sectors
+    → OfSession (λ f its. ends_on its.sp number (has_open f its)) session said s t live live
+aborts session number said s t live some shown made reply denied rule erases = λ o acts its ks kl block lives same.
+    aborts-here o (log o acts) its number said s t live ks some
+    (subst (λ (x : SessionId). is_open (part s x.sp).pending x.tsn ≡ false → ⊥) same shown)
+    (subst (λ (x : SessionId). t ≡ at_part x.sp part_close s) same made)
     reply denied rule erases
 
 -- and none that is open

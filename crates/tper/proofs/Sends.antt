@@ -193,7 +193,7 @@ manager-kept t u o acts com_id read frame s h m (inr its) k =
 pub manager-sent : (t u : Tper) (o : Origin) (acts : List Act) (com_id : ℕ) (read : Result Frame FrameError) (frame : Frame) (s : Sent) → IsFor read com_id frame → is_manager frame.session ≡ true
     → ByManager t u com_id frame s → Keeps t o (log o acts) → IsToldOfSend (sent (facts o (log o acts)) com_id read) s
 manager-sent t u o acts com_id read frame s h m (inl its) k =
-    nothing-sent _ Discarded s its.1.denied its.1.rule its.1.erases (manager-is-event t o (log o acts) com_id read frame true h m k its.0)
+    nothing-sent _ Discarded s its.1.denied its.1.by its.1.erases (manager-is-event t o (log o acts) com_id read frame true h m k its.0)
 manager-sent t u o acts com_id read frame s h m (inr its) k =
     subst (λ (e : Event). IsToldOfSend e s) (sym (manager-is-event t o (log o acts) com_id read frame false h m k its.0))
     (answer-sent t u com_id frame.session _ its.1.said s (its.1.met o (log o acts) k.store k.sessions k.block) its.1.denied its.1.rule its.1.erases)

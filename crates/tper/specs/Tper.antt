@@ -91,7 +91,7 @@ pub record Handles (Met : Outcome → Type 0) (com_id : ℕ) (session : Session)
 pub record IsIgnored (rule : Rule) (s : Sent) (old new : Tper) : Type 0 where
   pub unchanged : new ≡ old
   pub denied : s.denied ≡ None
-  pub rule : s.rule ≡ Some rule
+  pub by : s.rule ≡ Some rule
   pub erases : s.erases ≡ no_sectors
 
 -- It ended its session, and left no response: what came of the session, and what is told of it.

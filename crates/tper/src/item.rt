@@ -146,11 +146,7 @@ pub(crate) fn is_discarded(
 }
 
 /// Whether a payload is no item, and so ends the session that it is sent to without an answer.
-pub(crate) fn breaks_off(
-    alloc: Global,
-    profile: Profile,
-    tokens: &[u8],
-) -> Result<bool, AllocError>
+pub(crate) fn breaks_off(alloc: Global, profile: Profile, tokens: &[u8]) -> Result<bool, AllocError>
     ensures { IfOk result (λ b. b ≡ breaks_off_by profile (item_in profile tokens.now)) }
 {
     if profile != Profile::Opal || begins_with_end(tokens) {

@@ -1,6 +1,6 @@
 use Rattle.std.proofs.Common.{refl}
 use Rattle.tper.proofs.Carried.{end_carried, abort_carried, end_refused_carried}
-use Rattle.tper.proofs.Items.{carried-as, unequal, commits, ends-none}
+use Rattle.tper.proofs.Items.{carried-as, unequal, commits, aborts, ends-none}
 use Rattle.tper.proofs.item.end.Goals as goal
 
 pub returns-in-Ok-clause-carried : goal.returns-in-Ok-clause-carried
@@ -29,3 +29,8 @@ pub returns-in-Err-abort-clause-met : goal.returns-in-Err-abort-clause-met
 returns-in-Err-abort-clause-met c = λ live.
     ends-none c.args.session c.args.number c.answer-in-Err-abort.result c.args.store.now c.abort.new.self live
     (c.in-Err-abort.ensures.not_open.0 refl) c.in-Err-abort.ensures.err c.answer-in-Err-abort.ensures.reply c.answer-in-Err-abort.ensures.denied c.answer-in-Err-abort.ensures.rule c.answer-in-Err-abort.ensures.erases
+
+pub returns-in-Ok-abort-clause-met : goal.returns-in-Ok-abort-clause-met
+returns-in-Ok-abort-clause-met c = λ live.
+    aborts c.args.session c.args.number c.answer-in-Ok-abort.result c.args.store.now c.abort.new.self live c.if-number-eq0.false
+    (λ h. unequal (c.in-Ok-abort.ensures.not_open.1 h)) c.in-Ok-abort.ensures.ok c.answer-in-Ok-abort.ensures.reply c.answer-in-Ok-abort.ensures.denied c.answer-in-Ok-abort.ensures.rule c.answer-in-Ok-abort.ensures.erases
