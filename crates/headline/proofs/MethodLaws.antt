@@ -41,7 +41,7 @@ use Rattle.sp_cells.specs.declared.names.Sp.{Sp}
 use Rattle.sp_cells.specs.declared.names.Sp.TheVariants.{Admin, Locking}
 use Rattle.sp_cells.specs.declared.names.Uid.{Uid}
 use Rattle.sp_cells.specs.ColumnNames.{pin_column}
-use Rattle.sp_tables.specs.RowNames.{rows_of}
+use Rattle.sp_tables.specs.RowNames.{rows_of_table}
 use Rattle.methods.specs.Tables.{rows_asked}
 use Rattle.ace_eval.specs.Aces.{acl_at}
 use Rattle.sp_cells.specs.Names.{c_pin_sid, table_of}
@@ -289,7 +289,7 @@ effect_is f session object Revert true valid = reverts_deed f session _ _ valid
 effect_is f session object GenKey true valid = erases_deed f session (key_number object) _ valid
 effect_is f session object (RevertSp keep) true valid = reverts_sp_deed f session (is_wholly_locked (f.rows_of session.number)) keep _ valid
 effect_is f session object (Next after count) true valid =
-    told_deed f session (rows_asked after count (rows_of session.sp (table_of object)))
+    told_deed f session (rows_asked after count (rows_of_table session.sp (table_of object)))
 effect_is f session object (GetAcl about what) true valid =
     acl_deed f session (acl_at f.config.profile session.sp about what)
 effect_is f session object Other true valid = absurd (cc)

@@ -36,7 +36,7 @@ use Rattle.sp_cells.specs.Numbers.{key_number}
 use Rattle.methods.specs.Erasures.{is_wholly_locked}
 use Rattle.methods.specs.Kinds.{kind_of, byte_table_of}
 use Rattle.methods.specs.Tables.{rows_asked, uids_tree}
-use Rattle.sp_tables.specs.RowNames.{rows_of}
+use Rattle.sp_tables.specs.RowNames.{rows_of_table}
 use Rattle.methods.specs.Columns.{set_types_of}
 use Rattle.methods.specs.Settings.{cells_for, setting_of_cells, cells_of_ask, bytes_of_ask, setting}
 use Rattle.sessions.specs.Made.{is_within}
@@ -148,7 +148,7 @@ does-kind s object Activate k h = (open-kind s.is_open Activates k h).0
 does-kind s object Revert k h = (open-kind s.is_open (Reverts (sp_of_row object)) k h).0
 does-kind s object GenKey k h = erases-kind (key_number object) k (open-kind s.is_open (erases (key_number object)) k h).0
 does-kind s object (RevertSp keep) k h = reverts-kind (keep && is_wholly_locked s.rows) keep k (open-kind s.is_open (reverts_sp s.rows keep) k h).0
-does-kind s object (Next after count) k h = told-kind (rows_asked after count (rows_of s.sp (table_of object))) k h
+does-kind s object (Next after count) k h = told-kind (rows_asked after count (rows_of_table s.sp (table_of object))) k h
 does-kind s object (GetAcl about what) k h = acl-kind (acl_at s.profile s.sp about what) k h
 does-kind s object Other k h = absurd (zero-one h)
 

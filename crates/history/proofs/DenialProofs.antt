@@ -43,7 +43,7 @@ use Rattle.tcg_calls.specs.Limits.{most_response}
 use Rattle.sp_cells.specs.ByteTables.{bytes_of_table, table_begin}
 use Rattle.methods.specs.Kinds.{kind_of, byte_table_of}
 use Rattle.methods.specs.Tables.{rows_asked, uids_tree}
-use Rattle.sp_tables.specs.RowNames.{rows_of}
+use Rattle.sp_tables.specs.RowNames.{rows_of_table}
 use Rattle.methods.specs.Effects.{ask_at, last_row, sp_of_row}
 use Rattle.sp_cells.specs.Numbers.{key_number}
 use Rattle.methods.specs.Erasures.{is_wholly_locked}
@@ -190,7 +190,7 @@ done-clean s object Activate = open-clean s.is_open Activates refl
 done-clean s object Revert = open-clean s.is_open (Reverts (sp_of_row object)) refl
 done-clean s object GenKey = open-clean s.is_open (erases (key_number object)) (erases-clean (key_number object))
 done-clean s object (RevertSp keep) = open-clean s.is_open (reverts_sp s.rows keep) (clean-if (keep && is_wholly_locked s.rows) (Refuses 0x3f GlobalLocked) (RevertsSp keep) refl refl)
-done-clean s object (Next after count) = told-clean (rows_asked after count (rows_of s.sp (table_of object)))
+done-clean s object (Next after count) = told-clean (rows_asked after count (rows_of_table s.sp (table_of object)))
 done-clean s object (GetAcl about what) = acl-clean (acl_at s.profile s.sp about what)
 done-clean s object Other = refl
 
@@ -244,7 +244,7 @@ own-done s object Activate = own-open s.block s.is_open Activates refl
 own-done s object Revert = own-open s.block s.is_open (Reverts (sp_of_row object)) refl
 own-done s object GenKey = own-open s.block s.is_open (erases (key_number object)) (own-erases s.block (key_number object))
 own-done s object (RevertSp keep) = own-open s.block s.is_open (reverts_sp s.rows keep) (own-if s.block (keep && is_wholly_locked s.rows) (Refuses 0x3f GlobalLocked) (RevertsSp keep) refl refl)
-own-done s object (Next after count) = own-told s.block (rows_asked after count (rows_of s.sp (table_of object)))
+own-done s object (Next after count) = own-told s.block (rows_asked after count (rows_of_table s.sp (table_of object)))
 own-done s object (GetAcl about what) = own-acl s.block (acl_at s.profile s.sp about what)
 own-done s object Other = refl
 

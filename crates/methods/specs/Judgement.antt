@@ -11,7 +11,7 @@ use Rattle.sp_cells.specs.ByteTables.{bytes_of_table, table_begin}
 use Rattle.sp_cells.specs.Flat.{LookUp}
 use Rattle.sp_cells.specs.Names.{table_of}
 use Rattle.sp_cells.specs.Numbers.{key_number}
-use Rattle.sp_tables.specs.RowNames.{rows_of}
+use Rattle.sp_tables.specs.RowNames.{rows_of_table}
 use Rattle.ace_eval.specs.Aces.{acl_at}
 use Rattle.sp_tables.specs.Looks.{RowLook, fault_seen}
 use Rattle.sp_tables.specs.Tries.{names_tries}
@@ -170,7 +170,7 @@ does_ask s object Revert = unless_open s.is_open (Reverts (sp_of_row object))
 does_ask s object GenKey = unless_open s.is_open (erases (key_number object))
 does_ask s object (RevertSp keep) = unless_open s.is_open (reverts_sp s.rows keep)
 does_ask s object (Next after count) =
-    rows_told (rows_asked after count (rows_of s.sp (table_of object)))
+    rows_told (rows_asked after count (rows_of_table s.sp (table_of object)))
 does_ask s object (GetAcl about method) = acl_told (acl_at s.profile s.sp about method)
 does_ask s object Other = Refuses fail NoMethod
 

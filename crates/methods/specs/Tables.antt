@@ -5,22 +5,22 @@ use Rattle.tcg_tokens.specs.Tree.{Tree, list, trees_of}
 use Rattle.tcg_calls.specs.CellValues.{uid_tree}
 
 -- the rows behind this one; None where it is none of them
-abbrev pub rows_behind : Uid → List Uid → Option (List Uid)
-rows_behind row [] = None
-rows_behind row (r ∷ rs) = if r.0 == row.0 then Some rs else rows_behind row rs
+abbrev pub rows_past : Uid → List Uid → Option (List Uid)
+rows_past row [] = None
+rows_past row (r ∷ rs) = if r.0 == row.0 then Some rs else rows_past row rs
 
 -- from the first row on, or from the one behind this one
-abbrev pub rows_after : Option Uid → List Uid → Option (List Uid)
-rows_after None rows = Some rows
-rows_after (Some row) rows = rows_behind row rows
+abbrev pub rows_from_next : Option Uid → List Uid → Option (List Uid)
+rows_from_next None rows = Some rows
+rows_from_next (Some row) rows = rows_past row rows
 
 -- at most so many
-abbrev pub at_most : Option ℕ → List Uid → List Uid
-at_most None rows = rows
-at_most (Some count) rows = take count rows
+abbrev pub first_rows : Option ℕ → List Uid → List Uid
+first_rows None rows = rows
+first_rows (Some count) rows = take count rows
 
 abbrev pub rows_asked : Option Uid → Option ℕ → List Uid → Option (List Uid)
-rows_asked after count rows = option_map (at_most count) (rows_after after rows)
+rows_asked after count rows = option_map (first_rows count) (rows_from_next after rows)
 
 -- the names of objects as one value
 abbrev pub uids_tree : List Uid → Tree

@@ -94,15 +94,9 @@ fn perform(
         (Handler::ListRows, Ask::Next { after, count }) => {
             tables::next(alloc, session.sp, object, *after, *count)
         }
-        (
-            Handler::ReadAcl,
-            Ask::GetAcl {
-                object: about,
-                method,
-            },
-        ) => {
+        (Handler::ReadAcl, Ask::GetAcl { object, method }) => {
             let profile = store.committed().config().profile();
-            tables::get_acl(alloc, profile, session.sp, *about, *method)
+            tables::get_acl(alloc, profile, session.sp, *object, *method)
         }
         _ => Ok(refused(alloc, status::FAIL, Rule::NoMethod)),
     }

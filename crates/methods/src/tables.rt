@@ -5,8 +5,8 @@ ghost use Rattle.tcg_tokens.specs.Tree.{tree};
 ghost use Rattle.tcg_calls.specs.CellValues.{uid_tree};
 ghost use Rattle.ace_eval.specs.Aces.{acl_at};
 ghost use Rattle.sp_cells.specs.Names.{table_of};
-ghost use Rattle.sp_tables.specs.RowNames.{rows_of as rows_in};
-ghost use Rattle.methods.specs.Tables.{rows_behind, rows_after, at_most as most_of, rows_asked, uids_tree};
+ghost use Rattle.sp_tables.specs.RowNames.{rows_of_table};
+ghost use Rattle.methods.specs.Tables.{rows_past, rows_from_next, first_rows, rows_asked, uids_tree};
 ghost use Rattle.methods.specs.Judgement.{names_given, rows_told, acl_told};
 ghost use Rattle.methods.specs.Calls.{Tells};
 ghost use Rattle.methods.specs.declared.outcome.MethodFault.TheVariants as faults;
@@ -44,7 +44,7 @@ fn names_outcome(alloc: Global, names: &[Uid]) -> Result<Outcome, AllocError>
 
 /// The rows behind one of them, where it is one.
 fn behind(rows: &[Uid], row: Uid) -> Option<&[Uid]>
-    ensures { option_map (λ s. s.now) result ≡ rows_behind row rows.now }
+    ensures { option_map (λ s. s.now) result ≡ rows_past row rows.now }
 {
     let mut rest = rows;
     while let [first, tail @ ..] = rest {
@@ -58,7 +58,7 @@ fn behind(rows: &[Uid], row: Uid) -> Option<&[Uid]>
 
 /// The rows behind one of them, or all.
 fn after_row(rows: &[Uid], after: Option<Uid>) -> Option<&[Uid]>
-    ensures { option_map (λ s. s.now) result ≡ rows_after after rows.now }
+    ensures { option_map (λ s. s.now) result ≡ rows_from_next after rows.now }
 {
     match after {
         Some(row) => behind(rows, row),
@@ -68,7 +68,7 @@ fn after_row(rows: &[Uid], after: Option<Uid>) -> Option<&[Uid]>
 
 /// At most so many of the rows.
 fn at_most(rows: &[Uid], count: Option<u64>) -> &[Uid]
-    ensures { result.now ≡ most_of count rows.now }
+    ensures { result.now ≡ first_rows count rows.now }
 {
     match count {
         Some(count) if count < rows.len() as u64 => &rows[..count as usize],
@@ -100,7 +100,7 @@ pub(crate) fn next(
     count: Option<u64>,
 ) -> Result<Outcome, MethodFault>
     ensures tells { IfOk result
-        (Tells (rows_told (rows_asked after count (rows_in sp (table_of table))))) }
+        (Tells (rows_told (rows_asked after count (rows_of_table sp (table_of table))))) }
     ensures memory { IfErr result (λ e. e ≡ faults.OutOfMemory) }
 {
     let rows = rows_of(alloc, sp, table.table())?;

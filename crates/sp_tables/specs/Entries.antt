@@ -29,15 +29,15 @@ use Rattle.sp_tables.specs.declared.sp_rows.constants.Constants.{Constants}
 use Rattle.sp_tables.specs.declared.sp_rows.constants.Constants.TheVariants.{One as OneRow, OfAuthorities, OfKeys}
 use Rattle.basics.specs.Profiles.{has_field}
 use Rattle.sp_tables.specs.Items.{Item, row_items}
-use Rattle.sp_tables.specs.Factory.{is_opal, new_group, new_member, new_pin, new_ace, ace_row, admins_or_row, numbered_key, family}
+use Rattle.sp_tables.specs.Factory.{has_opal, new_group, new_member, new_pin, new_ace, ace_row, admins_or_row, numbered_key, family}
 
 -- the drives that have what stands in an entry: all, those of one profile with those that have all of it, or all but Opal's
 abbrev pub is_in : Drives → Profile → Bool
 is_in All profile = true
 is_in OfBase profile = not (has_field profile)
 is_in OfField profile = has_field profile
-is_in OfOpal profile = is_opal profile
-is_in ButOpal profile = not (is_opal profile)
+is_in OfOpal profile = has_opal profile
+is_in ButOpal profile = not (has_opal profile)
 
 abbrev pub entry_items : {E : Type 0} → (E → List Item) → Profile → Entry E → List Item
 entry_items items profile entry = if is_in entry.drives profile then items entry.rows else []
@@ -72,7 +72,8 @@ member_authority f n = new_member (uid (row_base authority_table + f.number + n)
 
 abbrev pub authority_items : Authorities → List Item
 authority_items (Group g) = row_items g.object (new_group g.object g.name.now g.is_class)
-authority_items (Member m) = row_items m.object (new_member m.object m.name.now m.class m.enabled m.credential)
+authority_items (Member m) = row_items m.object
+    (new_member m.object m.name.now m.class m.enabled m.credential)
 authority_items (Each f) = family (row_base authority_table + f.number) (member_authority f) f.count
 
 abbrev pub member_pin : PinFamily → ℕ → List (Column × Cell)

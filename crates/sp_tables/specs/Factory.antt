@@ -285,13 +285,13 @@ abbrev pub in_field : Profile → List Item → List Item
 in_field profile items = if has_field profile then items else []
 
 -- rows that a drive has under the profile `Opal` alone
-abbrev pub is_opal : Profile → Bool
-is_opal Base = false
-is_opal Field = false
-is_opal Opal = true
+abbrev pub has_opal : Profile → Bool
+has_opal Base = false
+has_opal Field = false
+has_opal Opal = true
 
 abbrev pub in_opal : Profile → List Item → List Item
-in_opal profile items = if is_opal profile then items else []
+in_opal profile items = if has_opal profile then items else []
 
 -- these runs of rows have these cells
 abbrev pub HasRows : {R : Type 0} → (R → List (Column × Cell)) → List (Run R) → List Item → Type 0
@@ -414,7 +414,7 @@ admin_tper_infos = row_items tper_info (new_tper_info tper_info)
 -- who may read the PIN row of SID but for its PIN: under Opal, that of the Admin SP's Admin1 too
 abbrev pub sid_get_aces : Profile → List Item
 sid_get_aces profile =
-    if is_opal profile then admins_or_row ace_c_pin_sid_get_nopin (codes "C_PIN_SID_Get_NOPIN") sid
+    if has_opal profile then admins_or_row ace_c_pin_sid_get_nopin (codes "C_PIN_SID_Get_NOPIN") sid
     but_pin else ace_row ace_c_pin_sid_get_nopin (codes "C_PIN_SID_Get_NOPIN") sid but_pin
 
 -- ACEs

@@ -21,19 +21,19 @@ use Rattle.sp_tables.specs.Items.{Item, item_at}
 use Rattle.std.specs.List.{flat_map}
 
 -- the names of so many rows of a family, from this number on
-abbrev pub numbered : (ℕ → Uid) → ℕ → ℕ → List Uid
-numbered name first zero = []
-numbered name first (suc n) = name first ∷ numbered name (suc first) n
+abbrev pub numbered_uids : (ℕ → Uid) → ℕ → ℕ → List Uid
+numbered_uids name first zero = []
+numbered_uids name first (suc n) = name first ∷ numbered_uids name (suc first) n
 
 -- one for each Admin, and for each User, and for each range, the global one first
-abbrev pub of_admins : (ℕ → Uid) → List Uid
-of_admins name = numbered name 1 ADMINS
+abbrev pub of_each_admin : (ℕ → Uid) → List Uid
+of_each_admin name = numbered_uids name 1 ADMINS
 
-abbrev pub of_users : (ℕ → Uid) → List Uid
-of_users name = numbered name 1 USERS
+abbrev pub of_each_user : (ℕ → Uid) → List Uid
+of_each_user name = numbered_uids name 1 USERS
 
-abbrev pub of_ranges : (ℕ → Uid) → List Uid
-of_ranges name = numbered name 0 (RANGES + 1)
+abbrev pub of_each_range : (ℕ → Uid) → List Uid
+of_each_range name = numbered_uids name 0 (RANGES + 1)
 
 abbrev pub admin_ace_names : List Uid
 admin_ace_names =
@@ -64,12 +64,12 @@ locking_ace_names =
     ∷ ace_c_pin_admins_get_all_nopin
     ∷ ace_c_pin_admins_set_pin
     ∷ [])
-    ++ (of_users ace_c_pin_user_set_pin
-    ++ (of_ranges ace_key_gen_key
+    ++ (of_each_user ace_c_pin_user_set_pin
+    ++ (of_each_range ace_key_gen_key
     ++ ((ace_key_mode ∷ [])
-    ++ (of_ranges ace_range_get
-    ++ (of_ranges ace_range_set_read_locked
-    ++ (of_ranges ace_range_set_write_locked
+    ++ (of_each_range ace_range_get
+    ++ (of_each_range ace_range_set_read_locked
+    ++ (of_each_range ace_range_set_write_locked
     ++ ((ace_locking_global_range_admins_set
     ∷ ace_locking_admins_set
     ∷ ace_mbr_control_admins_set
@@ -77,7 +77,7 @@ locking_ace_names =
     ∷ ace_datastore_get_all
     ∷ ace_datastore_set_all
     ∷ [])
-    ++ of_users ace_user_set_common_name)))))))
+    ++ of_each_user ace_user_set_common_name)))))))
 
 -- the tables of an SP that have Next, each with the names of its rows
 unfoldable pub listed_tables : Sp → List (ℕ × List Uid)
@@ -138,13 +138,13 @@ listed_tables Locking = (
     ∷ (ace_table, locking_ace_names)
     ∷ (
       authority_table,
-      (anybody ∷ admins_class ∷ []) ++ (of_admins admin_uid
-          ++ ((users_class ∷ []) ++ of_users user_uid)),
+      (anybody ∷ admins_class ∷ []) ++ (of_each_admin admin_uid
+          ++ ((users_class ∷ []) ++ of_each_user user_uid)),
     )
-    ∷ (c_pin_table, of_admins admin_pin_uid ++ of_users user_pin_uid)
+    ∷ (c_pin_table, of_each_admin admin_pin_uid ++ of_each_user user_pin_uid)
     ∷ (secret_protect_table, secret_protect_key ∷ [])
-    ∷ (locking_table, of_ranges range_uid)
-    ∷ (key_table, of_ranges key_uid)
+    ∷ (locking_table, of_each_range range_uid)
+    ∷ (key_table, of_each_range key_uid)
     ∷ []
 
 -- the rows of the table of this number; none where it is not among these
@@ -153,28 +153,28 @@ rows_among [] table = []
 rows_among (t ∷ ts) table = if t.0 == table then t.1 else rows_among ts table
 
 -- the names of the rows of a table of an SP
-abbrev pub rows_of : Sp → ℕ → List Uid
-rows_of sp table = rows_among (listed_tables sp) table
+abbrev pub rows_of_table : Sp → ℕ → List Uid
+rows_of_table sp table = rows_among (listed_tables sp) table
 
 -- each name is smaller than the next
-abbrev pub are_rising : List Uid → Bool
-are_rising [] = true
-are_rising (o ∷ []) = true
-are_rising (o ∷ (p ∷ os)) = nat_lt o.0 p.0 && are_rising (p ∷ os)
+abbrev pub uids_rise : List Uid → Bool
+uids_rise [] = true
+uids_rise (o ∷ []) = true
+uids_rise (o ∷ (p ∷ os)) = nat_lt o.0 p.0 && uids_rise (p ∷ os)
 
 -- each of these rows has a cell of its name, and each of these cells of the table is of one of them
 abbrev pub have_names : List Item → List Uid → Bool
 have_names items rows = list_all (λ o. is_some (item_at items o uid_column)) rows
 
-abbrev pub are_among : List Item → ℕ → List Uid → Bool
-are_among items table rows =
+abbrev pub are_of_rows : List Item → ℕ → List Uid → Bool
+are_of_rows items table rows =
     list_all (λ i. not (table_of i.object == table) || list_any (λ o. o.0 == i.object.0) rows) items
 
 -- these names are those of the rows of a table, rising
 pub record AreRows (items : List Item) (table : ℕ) (rows : List Uid) : Type 0 where
   pub there : IsTrue (have_names items rows)
-  pub only : IsTrue (are_among items table rows)
-  pub rising : IsTrue (are_rising rows)
+  pub only : IsTrue (are_of_rows items table rows)
+  pub rising : IsTrue (uids_rise rows)
 
 -- what the entries of a table of the code stand for
 abbrev pub family_name : Family → ℕ → Uid
@@ -191,11 +191,11 @@ family_name families.ReadLockedAces n = ace_range_set_read_locked n
 family_name families.WriteLockedAces n = ace_range_set_write_locked n
 family_name families.GenKeyAces n = ace_key_gen_key n
 
-abbrev pub names_in : Names → List Uid
-names_in (One object) = object ∷ []
-names_in (OfAdmins f) = of_admins (family_name f)
-names_in (OfUsers f) = of_users (family_name f)
-names_in (OfRanges f) = of_ranges (family_name f)
+abbrev pub uids_in : Names → List Uid
+uids_in (One object) = object ∷ []
+uids_in (OfAdmins f) = of_each_admin (family_name f)
+uids_in (OfUsers f) = of_each_user (family_name f)
+uids_in (OfRanges f) = of_each_range (family_name f)
 
 abbrev pub listed_table : TableRows → ℕ × List Uid
-listed_table t = (t.table, flat_map names_in t.rows.now)
+listed_table t = (t.table, flat_map uids_in t.rows.now)

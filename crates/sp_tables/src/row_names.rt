@@ -7,7 +7,7 @@ ghost use Rattle.sp_cells.specs.declared.byte_tables.TableSizes.{TableSizes};
 ghost use Rattle.sp_cells.specs.declared.names.Sp.TheVariants.{Admin, Locking};
 ghost use Rattle.sp_cells.specs.Names.{table_table, sp_templates_table, method_id_table, ace_table, authority_table, c_pin_table, secret_protect_table, template_table, sp_table, locking_table, key_table};
 ghost use Rattle.sp_tables.specs.Factory.{admin_factory, locking_factory};
-ghost use Rattle.sp_tables.specs.RowNames.{numbered, family_name, names_in, listed_table, listed_tables, rows_of as rows_of_table, AreRows};
+ghost use Rattle.sp_tables.specs.RowNames.{numbered_uids, family_name, uids_in, listed_table, listed_tables, rows_of_table, AreRows};
 
 use crate::sp_rows::TABLES;
 use sp_cells::names::tables;
@@ -76,7 +76,7 @@ fn push_numbered(
 ) -> Result<(), AllocError>
     requires { first + count ≤ 255 }
     ensures { OnOk result (names.new.items
-        ≡ names.old.items ++ numbered (family_name family.now) first count) }
+        ≡ names.old.items ++ numbered_uids (family_name family.now) first count) }
 {
     for i in 0..count {
         names.push(family.name(first + i))?;
@@ -87,7 +87,7 @@ fn push_numbered(
 impl Names {
     /// Adds the names.
     fn push_to(&self, names: &mut Vec<Uid>) -> Result<(), AllocError>
-        ensures { OnOk result (names.new.items ≡ names.old.items ++ names_in self.now) }
+        ensures { OnOk result (names.new.items ≡ names.old.items ++ uids_in self.now) }
     {
         match self {
             Names::One(object) => names.push(*object)?,
@@ -311,7 +311,7 @@ fn tables_of(sp: Sp) -> &'static [TableRows]
 
 /// The rows of a table of an SP; none where the table has no Next.
 fn names_of(sp: Sp, table: u64) -> &'static [Names]
-    ensures { flat_map names_in result.now ≡ rows_of_table sp table }
+    ensures { flat_map uids_in result.now ≡ rows_of_table sp table }
 {
     for rows in tables_of(sp) {
         if rows.table == table {
@@ -338,33 +338,41 @@ pub fn laws_of_row_names()
     ensures admin_tables { (msid psid : List ℕ)
         → AreRows (admin_factory Opal msid psid) table_table (rows_of_table Admin table_table) }
     ensures admin_sp_templates { (msid psid : List ℕ)
-        → AreRows (admin_factory Opal msid psid) sp_templates_table (rows_of_table Admin sp_templates_table) }
+        → AreRows (admin_factory Opal msid psid) sp_templates_table
+            (rows_of_table Admin sp_templates_table) }
     ensures admin_methods { (msid psid : List ℕ)
-        → AreRows (admin_factory Opal msid psid) method_id_table (rows_of_table Admin method_id_table) }
+        → AreRows (admin_factory Opal msid psid) method_id_table
+            (rows_of_table Admin method_id_table) }
     ensures admin_aces { (msid psid : List ℕ)
         → AreRows (admin_factory Opal msid psid) ace_table (rows_of_table Admin ace_table) }
     ensures admin_authorities { (msid psid : List ℕ)
-        → AreRows (admin_factory Opal msid psid) authority_table (rows_of_table Admin authority_table) }
+        → AreRows (admin_factory Opal msid psid) authority_table
+            (rows_of_table Admin authority_table) }
     ensures admin_pins { (msid psid : List ℕ)
         → AreRows (admin_factory Opal msid psid) c_pin_table (rows_of_table Admin c_pin_table) }
     ensures admin_templates { (msid psid : List ℕ)
-        → AreRows (admin_factory Opal msid psid) template_table (rows_of_table Admin template_table) }
+        → AreRows (admin_factory Opal msid psid) template_table
+            (rows_of_table Admin template_table) }
     ensures admin_sps { (msid psid : List ℕ)
         → AreRows (admin_factory Opal msid psid) sp_table (rows_of_table Admin sp_table) }
     ensures locking_tables { (sizes : TableSizes)
         → AreRows (locking_factory Opal sizes) table_table (rows_of_table Locking table_table) }
     ensures locking_sp_templates { (sizes : TableSizes)
-        → AreRows (locking_factory Opal sizes) sp_templates_table (rows_of_table Locking sp_templates_table) }
+        → AreRows (locking_factory Opal sizes) sp_templates_table
+            (rows_of_table Locking sp_templates_table) }
     ensures locking_methods { (sizes : TableSizes)
-        → AreRows (locking_factory Opal sizes) method_id_table (rows_of_table Locking method_id_table) }
+        → AreRows (locking_factory Opal sizes) method_id_table
+            (rows_of_table Locking method_id_table) }
     ensures locking_aces { (sizes : TableSizes)
         → AreRows (locking_factory Opal sizes) ace_table (rows_of_table Locking ace_table) }
     ensures locking_authorities { (sizes : TableSizes)
-        → AreRows (locking_factory Opal sizes) authority_table (rows_of_table Locking authority_table) }
+        → AreRows (locking_factory Opal sizes) authority_table
+            (rows_of_table Locking authority_table) }
     ensures locking_pins { (sizes : TableSizes)
         → AreRows (locking_factory Opal sizes) c_pin_table (rows_of_table Locking c_pin_table) }
     ensures locking_secrets { (sizes : TableSizes)
-        → AreRows (locking_factory Opal sizes) secret_protect_table (rows_of_table Locking secret_protect_table) }
+        → AreRows (locking_factory Opal sizes) secret_protect_table
+            (rows_of_table Locking secret_protect_table) }
     ensures locking_ranges { (sizes : TableSizes)
         → AreRows (locking_factory Opal sizes) locking_table (rows_of_table Locking locking_table) }
     ensures locking_keys { (sizes : TableSizes)

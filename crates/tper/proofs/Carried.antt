@@ -17,7 +17,7 @@ use Rattle.sp_cells.specs.declared.names.Uid.{Uid}
 use Rattle.sp_cells.specs.declared.names.Sp.{Sp}
 use Rattle.sp_cells.specs.Flat.{LookUp}
 use Rattle.ace_eval.specs.Aces.{acl_at}
-use Rattle.sp_tables.specs.RowNames.{rows_of}
+use Rattle.sp_tables.specs.RowNames.{rows_of_table}
 use Rattle.methods.specs.Tables.{rows_asked, uids_tree}
 use Rattle.sp_cells.specs.Names.{session_manager, sync_session, table_of}
 use Rattle.audit.specs.declared.reason.AttemptFailure.{AttemptFailure}
@@ -150,7 +150,7 @@ ask_carried rows sp its object Activate = inside_carried rows sp its.is_open Act
 ask_carried rows sp its object Revert = inside_carried rows sp its.is_open (Reverts (sp_of_row object)) bare_success
 ask_carried rows sp its object GenKey = inside_carried rows sp its.is_open (erases (key_number object)) (erases_carried rows sp (key_number object))
 ask_carried rows sp its object (RevertSp keep) = inside_carried rows sp its.is_open (reverts_sp its.rows keep) (revert_carried rows sp (keep && is_wholly_locked its.rows) keep)
-ask_carried rows sp its object (Next after count) = told_carried rows sp (rows_asked after count (rows_of its.sp (table_of object)))
+ask_carried rows sp its object (Next after count) = told_carried rows sp (rows_asked after count (rows_of_table its.sp (table_of object)))
 ask_carried rows sp its object (GetAcl about what) = acl_carried rows sp (acl_at its.profile its.sp about what)
 ask_carried rows sp its object Other = bare_fail
 

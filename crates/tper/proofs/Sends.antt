@@ -23,7 +23,7 @@ use Rattle.history.proofs.Words.{sp-same}
 use Rattle.history.proofs.KeptSessionsNamed.{named_law}
 use Rattle.tper.specs.declared.trusted.Sent.{Sent}
 use Rattle.sp_cells.specs.Config.{Config}
-use Rattle.tper.specs.Tper.{Tper, Keeps, IsToldOfSend, Manages, Serves}
+use Rattle.tper.specs.Tper.{Tper, Keeps, IsToldOfSend, Manages, ServesSession}
 use Rattle.tper.proofs.KeptBeside.{spares, kept_beside}
 use Rattle.tper.proofs.Keeping.{answer-kept, answer-sent, broken-kept}
 use Rattle.audit.specs.declared.rules.rule.Rule.TheVariants.{NoFrame, NoSession, Discarded}
@@ -163,7 +163,7 @@ abbrev pub ByManager : Tper → Tper → ℕ → Frame → Sent → Type 0
 ByManager t u com_id frame s = Manages com_id frame.session frame.payload s t u
 
 abbrev pub BySession : Tper → Tper → ℕ → Frame → SessionId → Sent → Type 0
-BySession t u com_id frame id s = Serves com_id frame.session id frame.payload s t u
+BySession t u com_id frame id s = ServesSession com_id frame.session id frame.payload s t u
 
 -- what is discarded, and what is not, by what is kept and by the past
 manager-is-event : (t : Tper) (o : Origin) (past : List Event) (com_id : ℕ) (read : Result Frame FrameError) (frame : Frame) (b : Bool) → IsFor read com_id frame → is_manager frame.session ≡ true → Keeps t o past → is_discarded t.store.config.profile (message_in frame.payload) ≡ b

@@ -113,8 +113,8 @@ Manages com_id session tokens s old new =
     new.store old.live new.live) com_id session s old new)
 
 -- What is sent to a live session ends it, or is handled there.
-abbrev pub Serves : ℕ → Session → SessionId → List ℕ → Sent → Tper → Tper → Type 0
-Serves com_id session id tokens s old new =
+abbrev pub ServesSession : ℕ → Session → SessionId → List ℕ → Sent → Tper → Tper → Type 0
+ServesSession com_id session id tokens s old new =
     ((breaks_off old.store.config.profile (item_in old.store.config.profile tokens) ≡ true)
     × BreaksOff (λ said. OfSession (λ f its. says (Ended its.sp) end_session) id said old.store
     new.store old.live new.live) s old new)

@@ -119,7 +119,8 @@ fn call_manager(
 
 /// Whether a call is one of a method of the session manager.
 fn is_of_manager(call: &Call) -> bool
-    ensures { result ≡ (is_method_of_manager properties (uid_in call.now.object) (uid_in call.now.method)
+    ensures { result
+        ≡ (is_method_of_manager properties (uid_in call.now.object) (uid_in call.now.method)
         || is_method_of_manager start_session (uid_in call.now.object) (uid_in call.now.method)) }
 {
     let method = uid_of(&call.method);

@@ -27,7 +27,7 @@ ghost use Rattle.tcg_tokens.specs.Message.{message, end_session};
 ghost use Rattle.tcg_tokens.specs.Reading.{reading as message_in};
 ghost use Rattle.methods.specs.Effects.{live_holder};
 ghost use Rattle.tper.specs.Items.{OfManager, OfSession};
-ghost use Rattle.tper.specs.Tper.{Keeps, IsToldOfSend, Handles, BreaksOff, Manages, Serves, Responds, Takes, response_at};
+ghost use Rattle.tper.specs.Tper.{Keeps, IsToldOfSend, Handles, BreaksOff, Manages, ServesSession, Responds, Takes, response_at};
 ghost use Rattle.sessions.specs.Deeds.{Ended, says};
 
 use crate::item::{breaks_off, end_session, in_session, is_discarded, to_manager};
@@ -324,7 +324,7 @@ impl Tper {
         requires com_id { is_session_com_id com_id ≡ true }
         requires lives { live_holder self.old.live id ≢ None }
         ensures handled { IfOk result
-            (λ s. Serves com_id session id tokens.now s self.old self.new) }
+            (λ s. ServesSession com_id session id tokens.now s self.old self.new) }
         ensures unchanged { IfOk result (λ s. s.changes ≡ false → self.new.store ≡ self.old.store) }
         ensures err { OnErr result (self.new ≡ self.old) }
         ensures config { self.new.store.config ≡ self.old.store.config }
