@@ -150,7 +150,7 @@ pub fn check_set<R: Rows>(
 ) -> Result<Option<Change>, AllocError>
     ensures { IfOk result (λ c. option_map setting_seen c
         ≡ setting (R.profile_of rows.now) sp (R.sizes_of rows.now) object
-            (kind_of_object sp object) ask.now) }
+        (kind_of_object sp object) ask.now) }
 {
     let kind = kind_of(sp, object);
     let table = byte_table_of(kind);

@@ -339,40 +339,40 @@ pub fn laws_of_row_names()
         → AreRows (admin_factory Opal msid psid) table_table (rows_of_table Admin table_table) }
     ensures admin_sp_templates { (msid psid : List ℕ)
         → AreRows (admin_factory Opal msid psid) sp_templates_table
-            (rows_of_table Admin sp_templates_table) }
+        (rows_of_table Admin sp_templates_table) }
     ensures admin_methods { (msid psid : List ℕ)
         → AreRows (admin_factory Opal msid psid) method_id_table
-            (rows_of_table Admin method_id_table) }
+        (rows_of_table Admin method_id_table) }
     ensures admin_aces { (msid psid : List ℕ)
         → AreRows (admin_factory Opal msid psid) ace_table (rows_of_table Admin ace_table) }
     ensures admin_authorities { (msid psid : List ℕ)
         → AreRows (admin_factory Opal msid psid) authority_table
-            (rows_of_table Admin authority_table) }
+        (rows_of_table Admin authority_table) }
     ensures admin_pins { (msid psid : List ℕ)
         → AreRows (admin_factory Opal msid psid) c_pin_table (rows_of_table Admin c_pin_table) }
     ensures admin_templates { (msid psid : List ℕ)
         → AreRows (admin_factory Opal msid psid) template_table
-            (rows_of_table Admin template_table) }
+        (rows_of_table Admin template_table) }
     ensures admin_sps { (msid psid : List ℕ)
         → AreRows (admin_factory Opal msid psid) sp_table (rows_of_table Admin sp_table) }
     ensures locking_tables { (sizes : TableSizes)
         → AreRows (locking_factory Opal sizes) table_table (rows_of_table Locking table_table) }
     ensures locking_sp_templates { (sizes : TableSizes)
         → AreRows (locking_factory Opal sizes) sp_templates_table
-            (rows_of_table Locking sp_templates_table) }
+        (rows_of_table Locking sp_templates_table) }
     ensures locking_methods { (sizes : TableSizes)
         → AreRows (locking_factory Opal sizes) method_id_table
-            (rows_of_table Locking method_id_table) }
+        (rows_of_table Locking method_id_table) }
     ensures locking_aces { (sizes : TableSizes)
         → AreRows (locking_factory Opal sizes) ace_table (rows_of_table Locking ace_table) }
     ensures locking_authorities { (sizes : TableSizes)
         → AreRows (locking_factory Opal sizes) authority_table
-            (rows_of_table Locking authority_table) }
+        (rows_of_table Locking authority_table) }
     ensures locking_pins { (sizes : TableSizes)
         → AreRows (locking_factory Opal sizes) c_pin_table (rows_of_table Locking c_pin_table) }
     ensures locking_secrets { (sizes : TableSizes)
         → AreRows (locking_factory Opal sizes) secret_protect_table
-            (rows_of_table Locking secret_protect_table) }
+        (rows_of_table Locking secret_protect_table) }
     ensures locking_ranges { (sizes : TableSizes)
         → AreRows (locking_factory Opal sizes) locking_table (rows_of_table Locking locking_table) }
     ensures locking_keys { (sizes : TableSizes)
