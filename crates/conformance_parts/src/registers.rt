@@ -62,14 +62,14 @@ fn clears_and_starts() -> Result<bool, RegError> {
 /// PxSCTL; PxCLBU and PxFBU are 0.
 fn keeps_each_byte() -> Result<bool, RegError> {
     let mut regs = PortRegs::new();
-    regs.write(0x00, 0x0403_0601)?;
+    regs.write(0x00, 0x9413_0605)?;
     regs.write(0x04, 0xffff_ffff)?;
     regs.write(0x08, 0x1413_1211)?;
     regs.write(0x0c, 0xffff_ffff)?;
     regs.write(0x14, 0x2423_2221)?;
     regs.write(0x2c, 0x3433_3231)?;
     regs.write(0x30, 0xffff_ffff)?;
-    let are_places = reads(&regs, 0x00, 0x0403_0400)
+    let are_places = reads(&regs, 0x00, 0x9413_0400)
         && reads(&regs, 0x04, 0)
         && reads(&regs, 0x08, 0x1413_1200)
         && reads(&regs, 0x0c, 0);
