@@ -17,6 +17,22 @@ const WRITE_QUEUED: [u8; 20] = [
     0x27, 0x80, 0x61, 0, 0xff, 0xff, 0xff, 0x40, 0xff, 0xff, 0xff, 0, 0xf8, 0, 0, 0, 0, 0, 0, 0,
 ];
 
+/// READ FPDMA QUEUED of 0807h sectors from 060504030201h under tag 21.
+const READ_BY_BYTES: [u8; 20] = [
+    0x27, 0x80, 0x60, 0x07, 0x01, 0x02, 0x03, 0x40, 0x04, 0x05, 0x06, 0x08, 0xa8, 0, 0, 0, 0, 0, 0,
+    0,
+];
+
+/// WRITE DMA EXT of 0807h sectors from there.
+const WRITE_BY_BYTES: [u8; 20] = [
+    0x27, 0x80, 0x35, 0, 0x01, 0x02, 0x03, 0x40, 0x04, 0x05, 0x06, 0, 0x07, 0x08, 0, 0, 0, 0, 0, 0,
+];
+
+/// TRUSTED RECEIVE of 0304h blocks by the protocol EEh from what F0F1h names.
+const RECEIVE: [u8; 20] = [
+    0x27, 0x80, 0x5c, 0xee, 0x03, 0xf1, 0xf0, 0, 0, 0, 0, 0, 0x04, 0, 0, 0, 0, 0, 0, 0,
+];
+
 /// READ DMA EXT has its sectors in Count, and no tag.
 const READ_DMA: [u8; 20] = [
     0x27, 0x80, 0x25, 0, 0x56, 0x34, 0x12, 0x40, 0, 0, 0, 0, 8, 0, 0, 0, 0, 0, 0, 0,
@@ -76,6 +92,27 @@ fn are_unqueued() -> bool {
         && is_spelled(log, 0, false, &READ_LOG, 0)
 }
 
+/// Fields with a value of its own in each byte.
+fn are_by_bytes() -> bool {
+    let read = Command::ReadQueued {
+        lba: 0x0605_0403_0201,
+        count: 0x0807,
+    };
+    let write = Command::WriteDma {
+        lba: 0x0605_0403_0201,
+        count: 0x0807,
+    };
+    let receive = Command::Receive {
+        protocol: 0xee,
+        sp_specific: 0xf0f1,
+        blocks: 0x0304,
+        dma: false,
+    };
+    is_spelled(read, 21, true, &READ_BY_BYTES, 0)
+        && is_spelled(write, 5, false, &WRITE_BY_BYTES, 0x0807 * 512)
+        && is_spelled(receive, 0, false, &RECEIVE, 0)
+}
+
 /// The code of each command that has no fields of its own, or that receives.
 fn are_codes() -> bool {
     let tag = Tag::low_bits(0);
@@ -106,6 +143,6 @@ fn are_counted() -> bool {
 
 #[test]
 fn commands_have_their_fis(rt: HostRuntime) {
-    let are_spelled = are_queued() && are_unqueued() && are_codes();
+    let are_spelled = are_queued() && are_unqueued() && are_by_bytes() && are_codes();
     assert!(rt; are_spelled && is_no_page() && are_counted());
 }

@@ -33,6 +33,27 @@ const FAULTS: [(usize, u8, FrameError); 9] = [
     (55, 0x24, FrameError::Many),
 ];
 
+/// The headers of a frame with 300 bytes, whose ComID, TSN and HSN have a byte of their own at each place.
+const HEADERS: [u8; 56] = [
+    0, 0, 0, 0, 0x21, 0x22, 0, 0, 0, 0, 0, 0, 0, 0, 0, 0, 0, 0, 0x01, 0x50, //
+    0x11, 0x12, 0x13, 0x14, 0x15, 0x16, 0x17, 0x18, 0, 0, 0, 0, 0, 0, 0, 0, 0, 0, 0, 0, 0, 0, 0x01,
+    0x38, //
+    0, 0, 0, 0, 0, 0, 0, 0, 0, 0, 0x01, 0x2c,
+];
+
+/// What no reader looks at: reserved bytes, the ComID extension, OutstandingData, MinTransfer; SeqNumber, reserved bytes,
+/// AckType, Acknowledgement; reserved bytes.
+const NOT_LOOKED_AT: [(usize, usize); 4] = [(0, 4), (6, 16), (28, 40), (44, 50)];
+
+/// The headers of no response on 2122h, and of one of 11121314h bytes that is longer than the transfer.
+const NO_RESPONSE: [u8; 20] = [
+    0, 0, 0, 0, 0x21, 0x22, 0, 0, 0, 0, 0, 0, 0, 0, 0, 0, 0, 0, 0, 0,
+];
+
+const LONG_RESPONSE: [u8; 20] = [
+    0, 0, 0, 0, 0x21, 0x22, 0, 0, 0x11, 0x12, 0x13, 0x14, 0x11, 0x12, 0x13, 0x14, 0, 0, 0, 0,
+];
+
 /// The fault of a copy of the vector in which one byte is another.
 fn fault_at(place: usize, byte: u8) -> Option<FrameError> {
     let mut bytes = VECTOR;
@@ -108,6 +129,41 @@ fn is_longer_refused(alloc: Global) -> Result<bool, AllocError> {
     Ok(open(longer.as_slice()).err() == Some(FrameError::Length))
 }
 
+/// Whether the headers of a frame with so many bytes are these, and are read so.
+fn is_headed(alloc: Global) -> Result<bool, AllocError> {
+    let session = Session {
+        tsn: 0x1112_1314,
+        hsn: 0x1516_1718,
+    };
+    let payload = vec![in alloc; 0xa5; 300]?;
+    let bytes = frame(alloc, 0x2122, session, payload.as_slice())?;
+    let want = Opened {
+        com_id: 0x2122,
+        session,
+        payload: payload.as_slice(),
+    };
+    let is_written = bytes.as_slice().starts_with(&HEADERS) && bytes.len() == 356;
+    Ok(is_written && open(bytes.as_slice()) == Ok(want))
+}
+
+/// Whether a vector with ones at these places is read as the vector is.
+fn is_read_past(from: usize, to: usize) -> bool {
+    let mut bytes = VECTOR;
+    for i in from..to.min(96) {
+        bytes[i] = 0xff;
+    }
+    is_frame(&bytes, &VECTOR[56..93])
+}
+
+/// Whether no reader looks at what is not for it.
+fn are_read_past() -> bool {
+    let mut are = true;
+    for (from, to) in NOT_LOOKED_AT {
+        are &= is_read_past(from, to);
+    }
+    are
+}
+
 /// Whether each changed byte is told.
 fn are_faults_told() -> bool {
     let mut are = true;
@@ -132,4 +188,12 @@ fn frames_are_written_and_read(rt: HostRuntime) {
     let is_longest = is_longest_written(rt.alloc()) == Ok(true);
     let is_told = is_longer_refused(rt.alloc()) == Ok(true) && are_faults_told() && are_cuts_told();
     assert!(rt; is_vector && is_longest && is_told && are_headers() && frame_len(37) == 96);
+}
+
+#[test]
+fn fields_of_headers(rt: HostRuntime) {
+    let is_headed = is_headed(rt.alloc()) == Ok(true);
+    let are_alone = empty_header(0x2122) == NO_RESPONSE
+        && short_header(0x2122, 0x1112_1314) == LONG_RESPONSE;
+    assert!(rt; is_headed && are_alone && are_read_past());
 }

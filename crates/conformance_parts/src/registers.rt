@@ -58,9 +58,45 @@ fn clears_and_starts() -> Result<bool, RegError> {
     Ok(is_cleared && is_stopped && reads(&regs, 0x18, 0xc011))
 }
 
+/// What a host has written, byte by byte: PxCLB and PxFB without the bits that their alignment takes (3.3.1, 3.3.3), PxIE and
+/// PxSCTL; PxCLBU and PxFBU are 0.
+fn keeps_each_byte() -> Result<bool, RegError> {
+    let mut regs = PortRegs::new();
+    regs.write(0x00, 0x9413_0605)?;
+    regs.write(0x04, 0xffff_ffff)?;
+    regs.write(0x08, 0x1413_1211)?;
+    regs.write(0x0c, 0xffff_ffff)?;
+    regs.write(0x14, 0x2423_2221)?;
+    regs.write(0x2c, 0x3433_3231)?;
+    regs.write(0x30, 0xffff_ffff)?;
+    let are_places = reads(&regs, 0x00, 0x9413_0400)
+        && reads(&regs, 0x04, 0)
+        && reads(&regs, 0x08, 0x1413_1200)
+        && reads(&regs, 0x0c, 0);
+    let are_kept = reads(&regs, 0x14, 0x2423_2221)
+        && reads(&regs, 0x2c, 0x3433_3231)
+        && reads(&regs, 0x30, 0);
+    Ok(are_places && are_kept)
+}
+
+/// What is added to the tags, byte by byte, and the device's status and error.
+fn adds_each_byte() -> Result<bool, RegError> {
+    let mut regs = PortRegs::new();
+    regs.write(0x34, 0x4443_4241)?;
+    regs.write(0x38, 0x0403_0281)?;
+    regs.set_task(0x88, 0x77);
+    let is_added = reads(&regs, 0x34, 0x4443_4241) && reads(&regs, 0x38, 0x0403_0281);
+    Ok(is_added && reads(&regs, 0x20, 0x7788))
+}
+
 #[test]
 fn words_of_the_registers(rt: HostRuntime) {
     let drops = drops_tags() == Ok(true);
     let clears = clears_and_starts() == Ok(true);
     assert!(rt; begins_with_a_device() && drops && follows_a_command() && clears);
+}
+
+#[test]
+fn bytes_of_the_registers(rt: HostRuntime) {
+    assert!(rt; keeps_each_byte() == Ok(true) && adds_each_byte() == Ok(true));
 }
