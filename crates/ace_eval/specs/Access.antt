@@ -122,11 +122,12 @@ abbrev pub methods_of : Sp → List Uid
 methods_of Admin = next ∷ get_acl ∷ get ∷ set ∷ authenticate ∷ revert ∷ activate ∷ random ∷ []
 methods_of Locking = next ∷ get_acl ∷ gen_key ∷ revert_sp ∷ get ∷ set ∷ authenticate ∷ random ∷ []
 
--- what anybody may ask each SP of itself: its access list, its templates, the rows of its tables, and what it tells of its
--- tables and methods
+-- what anybody may ask each SP: random bytes, and of itself its access list, its templates, the rows of its tables, and what it
+-- tells of its tables and methods
 unfoldable pub own_grants : Sp → List Grant
 own_grants sp =
     grant sp access_control get_acl (ace_anybody ∷ [])
+    ∷ grant sp this_sp random (ace_anybody ∷ [])
     ∷ grants sp (sp_info ∷ sp_template_base ∷ sp_template_own ∷ []) get (ace_anybody ∷ [])
 
 unfoldable pub listed_grants : Sp → List Grant

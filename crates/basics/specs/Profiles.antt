@@ -8,3 +8,9 @@ abbrev pub has_field : Profile → Bool
 has_field Base = false
 has_field Field = true
 has_field Opal = true
+
+-- and what Opal has beside Field
+abbrev pub has_opal : Profile → Bool
+has_opal Base = false
+has_opal Field = false
+has_opal Opal = true

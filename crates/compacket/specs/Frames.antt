@@ -1,7 +1,8 @@
 -- Frames as they are read: TCG Core 2.01, 3.2.3, "ComPackets, Packets and Subpackets".
-use Rattle.std.specs.Prelude.{◌≡◌, ℕ, ◌+◌, ◌-◌, ◌*◌, ◌/◌, ◌<◌, ◌≤◌, ◌==◌, nat_lt, not, List, length, take, drop, Option, Some, None, Result, Ok, Err, if◌then◌else◌}
+use Rattle.std.specs.Prelude.{◌≡◌, ℕ, ◌+◌, ◌-◌, ◌*◌, ◌/◌, ◌<◌, ◌≤◌, ◌==◌, nat_lt, Bool, true, false, not, ◌&&◌, is_some, List, length, take, drop, Option, Some, None, Result, Ok, Err, if◌then◌else◌}
 use Rattle.byteorder.specs.Endian.{big_number}
 use Rattle.compacket.specs.declared.session.Session.{Session}
+use Rattle.compacket.specs.declared.session.Named.{Named}
 use Rattle.compacket.specs.declared.error.FrameError.{FrameError}
 use Rattle.compacket.specs.declared.error.FrameError.TheVariants as errors
 use Rattle.compacket.specs.declared.headers.TheConstants.{MAX_COM_PACKET}
@@ -155,6 +156,32 @@ frame_in bytes = record {
   session = session_of (com_packet_content bytes);
   payload = subpacket_content (packet_content (com_packet_content bytes));
 }
+
+-- What a ComPacket names whose headers fit one another down to its packet, while what the packet carries is no whole
+-- subpacket: it has no room for the header of one, or its data end behind the packet (Opal SSC 2.01, section 3.3.4.1.3).
+abbrev pub exceeds_packet : List ℕ → Bool
+exceeds_packet subpacket =
+    if nat_lt (length subpacket) subpacket_header_size
+    then nat_lt 0 (length subpacket)
+    else subpacket_kind subpacket == data_kind
+    && nat_lt (length subpacket) (subpacket_size subpacket)
+
+abbrev pub lacks_subpacket : List ℕ → Bool
+lacks_subpacket packet =
+    packet_size packet == length packet && exceeds_packet (packet_content packet)
+
+abbrev pub is_broken : List ℕ → Bool
+is_broken bytes =
+    not (is_some (com_packet_fault bytes)) && lacks_subpacket (com_packet_content bytes)
+
+abbrev pub broken_in : List ℕ → Option Named
+broken_in bytes =
+    if is_broken bytes
+    then Some (record {
+      com_id = com_id_of bytes;
+      session = session_of (com_packet_content bytes);
+    })
+    else None
 
 -- What a reader answers: the frame that the bytes begin with, or the first fault.
 abbrev pub read_unless : Option FrameError → Frame → Result Frame FrameError

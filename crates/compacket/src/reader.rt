@@ -1,14 +1,14 @@
 //! Frames as they are read.
 
 ghost use Rattle.std.specs.Prelude.{◌≡◌, ◌+◌, ◌^◌, ◌<◌, ◌≤◌, IfOk, IsOkAnd, MatchResult, Ok, Err, Some, None, length, drop, slice_range};
-ghost use Rattle.compacket.specs.Frames.{Frame, IsComPacket, IsPacket, IsDataSubpacket, IsFrame, reading, fault_of, com_packet_fault, com_packet_content, packet_fault, packet_content, subpacket_fault, subpacket_content, com_id_of, session_of, big_endian_at, com_packet_header_size, packet_header_size, subpacket_header_size, headers_size};
+ghost use Rattle.compacket.specs.Frames.{Frame, IsComPacket, IsPacket, IsDataSubpacket, IsFrame, reading, fault_of, com_packet_fault, com_packet_content, packet_fault, packet_content, subpacket_fault, subpacket_content, com_id_of, session_of, big_endian_at, com_packet_header_size, packet_header_size, subpacket_header_size, headers_size, exceeds_packet, lacks_subpacket, broken_in};
 
 use crate::error::FrameError;
 use crate::headers::{
     COM_PACKET_HEADER, DATA_KIND, MAX_COM_PACKET, PACKET_HEADER, SUBPACKET_HEADER,
 };
 use crate::padding::padded;
-use crate::session::{ComId, Opened, Session};
+use crate::session::{ComId, Named, Opened, Session};
 use byteorder::{BigEndian, ByteOrder};
 
 fn length_at(bytes: &[u8], place: usize) -> usize
@@ -162,4 +162,39 @@ pub fn open(bytes: &[u8]) -> Result<Opened<'_>, FrameError>
         session: session_of(content),
         payload,
     })
+}
+
+/// Whether what a packet carries is no whole subpacket: it has no room for the header of one, or its data end behind the
+/// packet.
+fn exceeds_packet(bytes: &[u8]) -> bool
+    ensures { result ≡ exceeds_packet bytes.now }
+{
+    if bytes.len() < SUBPACKET_HEADER {
+        return !bytes.is_empty();
+    }
+    BigEndian::read_u16(&bytes[6..]) == DATA_KIND
+        && SUBPACKET_HEADER + padded(length_at(bytes, 8)) > bytes.len()
+}
+
+/// Whether a packet ends where its ComPacket does, and carries no whole subpacket.
+fn lacks_subpacket(bytes: &[u8]) -> bool
+    requires { packet_header_size ≤ length bytes.now }
+    ensures { result ≡ lacks_subpacket bytes.now }
+{
+    PACKET_HEADER + length_at(bytes, 20) == bytes.len() && exceeds_packet(&bytes[PACKET_HEADER..])
+}
+
+/// What the ComPacket names that the bytes begin with, where its headers fit one another down to its packet, while what
+/// the packet carries is no whole subpacket (Opal SSC 2.01, section 3.3.4.1.3). None of what `open` gives, and of what
+/// has any other fault.
+pub fn broken(bytes: &[u8]) -> Option<Named>
+    ensures { result ≡ broken_in bytes.now }
+{
+    match com_packet(bytes) {
+        Ok(content) if lacks_subpacket(content) => Some(Named {
+            com_id: com_id_of(bytes),
+            session: session_of(content),
+        }),
+        _ => None,
+    }
 }

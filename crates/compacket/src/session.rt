@@ -18,3 +18,10 @@ pub struct Opened<'a> {
     pub session: Session,
     pub payload: &'a [u8],
 }
+
+/// What the headers of a ComPacket name.
+#[derive(Clone, Copy, Debug, PartialEq, Eq)]
+pub struct Named {
+    pub com_id: ComId,
+    pub session: Session,
+}

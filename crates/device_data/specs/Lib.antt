@@ -4,3 +4,4 @@ pub mod ErrorLog
 pub mod DevicePages
 pub mod Protocols
 pub mod Settings
+pub mod StackReset

@@ -7,6 +7,7 @@ mod log_page;
 mod pages;
 mod protocols;
 mod settings;
+mod stack_reset;
 
 pub use identify::{identity, identity_of};
 pub use level0::{DISCOVERY_LENGTH, FIELD_DISCOVERY_LENGTH, discovery, field_discovery, has_owner};
@@ -16,3 +17,4 @@ pub use protocols::{
     CERTIFICATE_DATA_LENGTH, PROTOCOL_LIST_LENGTH, certificate_data, protocol_list,
 };
 pub use settings::Settings;
+pub use stack_reset::{STACK_ANSWER_LENGTH, is_stack_reset, stack_answer};

@@ -6,10 +6,10 @@ use Rattle.basics.specs.declared.profile.Profile.{Profile}
 use Rattle.basics.specs.declared.profile.Profile.TheVariants.{Base, Field, Opal}
 use Rattle.sp_cells.specs.declared.byte_tables.TableSizes.{TableSizes}
 use Rattle.sp_cells.specs.ByteTables.{sectors_of}
-use Rattle.sp_cells.specs.Limits.{most_mbr_sectors, most_datastore_bytes, new_datastore_bytes, opal_mbr_sectors, least_opal_datastore_bytes, most_pin_bytes, most_serial_bytes, most_model_bytes}
+use Rattle.sp_cells.specs.Limits.{most_mbr_sectors, most_datastore_bytes, new_datastore_bytes, opal_mbr_sectors, least_opal_datastore_bytes, new_seed, most_pin_bytes, most_serial_bytes, most_model_bytes}
 
 -- the sectors of the drive, those that can be shadowed, the PIN of a new drive's owner, and the profile with the names
--- that the drive tells under it, with the PIN on its label and the bytes of its DataStore
+-- that the drive tells under it, with the PIN on its label, the bytes of its DataStore, and the seed of its random bytes
 pub record Config : Type 0 where
   pub sectors : ℕ
   pub mbr_sectors : ℕ
@@ -19,6 +19,7 @@ pub record Config : Type 0 where
   pub model : List ℕ
   pub psid : List ℕ
   pub datastore : ℕ
+  pub seed : ℕ
 
 -- no more sectors than commands can name, a shadow within them, a PIN that fits a C_PIN row
 pub record IsWithinLimits (sectors mbr_sectors : ℕ) (msid : List ℕ) : Type 0 where
@@ -93,6 +94,7 @@ config_in profile sectors mbr_sectors msid = record {
   model = new_model;
   psid = new_psid;
   datastore = new_datastore profile;
+  seed = new_seed;
 }
 
 abbrev pub base_config : ℕ → ℕ → List ℕ → Config
@@ -115,6 +117,10 @@ labelled_config config psid = record config { psid = psid }
 -- the same drive with a DataStore of another size
 abbrev pub stored_config : Config → ℕ → Config
 stored_config config datastore = record config { datastore = datastore }
+
+-- the same drive with another seed
+abbrev pub seeded_config : Config → ℕ → Config
+seeded_config config seed = record config { seed = seed }
 
 -- how large its byte tables are, and in how many sectors they stand
 abbrev pub sizes_in : Config → TableSizes

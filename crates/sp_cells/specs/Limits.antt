@@ -20,6 +20,10 @@ opal_mbr_sectors = 262144
 abbrev pub least_opal_datastore_bytes : ℕ
 least_opal_datastore_bytes = 10485760
 
+-- the seed of the random bytes where none is told (this drive)
+abbrev pub new_seed : ℕ
+new_seed = 0
+
 -- the bytes of a PIN (Core 2.01, section 5.3, table C_PIN)
 abbrev pub most_pin_bytes : ℕ
 most_pin_bytes = 32

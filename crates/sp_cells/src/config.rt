@@ -2,14 +2,14 @@
 
 ghost use Rattle.std.specs.Prelude.{◌≡◌, ◌≤◌, ◌<◌, ◌^◌, List, length, IfOk, SomeIff};
 ghost use Rattle.std.specs.List.{list_all};
-ghost use Rattle.sp_cells.specs.Config.{Config, IsWithinLimits, HasOwnShadow, HasOwnStore, is_own_shadow, is_own_store, IsAtaText, AreNames, IsLabel, is_printable, new_serial, new_model, new_psid, new_datastore, config_in, base_config, field_config, opal_config, named_config, labelled_config, stored_config, sizes_in};
+ghost use Rattle.sp_cells.specs.Config.{Config, IsWithinLimits, HasOwnShadow, HasOwnStore, is_own_shadow, is_own_store, IsAtaText, AreNames, IsLabel, is_printable, new_serial, new_model, new_psid, new_datastore, config_in, base_config, field_config, opal_config, named_config, labelled_config, stored_config, seeded_config, sizes_in};
 ghost use Rattle.basics.specs.declared.profile.Profile.TheVariants.{Opal};
 ghost use Rattle.sp_cells.specs.Limits.{most_mbr_sectors, most_datastore_bytes, most_pin_bytes, most_serial_bytes, most_model_bytes};
 
 use crate::byte_tables::TableSizes;
 use crate::limits::{
     LEAST_OPAL_DATASTORE_BYTES, MOST_DATASTORE_BYTES, MOST_MBR_SECTORS, MOST_MODEL_BYTES,
-    MOST_PIN_BYTES, MOST_SERIAL_BYTES, NEW_DATASTORE_BYTES, OPAL_MBR_SECTORS,
+    MOST_PIN_BYTES, MOST_SERIAL_BYTES, NEW_DATASTORE_BYTES, NEW_SEED, OPAL_MBR_SECTORS,
 };
 use arrayvec::ArrayVec;
 use basics::{ADDRESS_LIMIT, Profile};
@@ -36,6 +36,7 @@ pub struct DriveConfig {
     model: ArrayVec<u8, MOST_MODEL_BYTES>,
     psid: ArrayVec<u8, MOST_PIN_BYTES>,
     datastore: u64,
+    seed: u64,
 }
 
 impl Model for DriveConfig {
@@ -54,6 +55,7 @@ impl Model for DriveConfig {
       model = c.model.items;
       psid = c.psid.items;
       datastore = c.datastore;
+      seed = c.seed;
     } };
 
     ghost invariant = { λ c. IsWithinLimits c.sectors c.mbr_sectors c.msid.items
@@ -122,6 +124,7 @@ impl DriveConfig {
             model: kept(&NEW_MODEL),
             psid: kept(&NEW_PSID),
             datastore: new_datastore_of(profile),
+            seed: NEW_SEED,
         })
     }
 
@@ -169,6 +172,13 @@ impl DriveConfig {
             return None;
         }
         Some(DriveConfig { datastore, ..self })
+    }
+
+    /// The same drive whose random bytes come of this seed. Only `Opal` gives any.
+    pub fn with_seed(self, seed: u64) -> DriveConfig
+        ensures { result ≡ seeded_config self seed }
+    {
+        DriveConfig { seed, ..self }
     }
 
     /// The drive's sectors.
@@ -234,6 +244,14 @@ impl DriveConfig {
         self.datastore
     }
 
+    /// The seed of the random bytes.
+    pub fn seed(&self) -> u64
+        ensures value { result ≡ self.now.seed }
+        ensures limits { self.now.seed < 2 ^ 64 }
+    {
+        self.seed
+    }
+
     /// How large the byte tables are.
     pub fn table_sizes(&self) -> TableSizes
         ensures value { result ≡ sizes_in self.now }
@@ -263,6 +281,7 @@ impl DriveConfig {
             model,
             psid,
             datastore: self.datastore,
+            seed: self.seed,
         })
     }
 }

@@ -11,7 +11,7 @@ ghost use Rattle.sp_cells.specs.ColumnNames.{uid_column, name_column, common_nam
 ghost use Rattle.sp_cells.specs.ColumnNames.{is_class_column, class_column, enabled_column, operation_column, credential_column, boolean_expr_column, columns_column};
 ghost use Rattle.sp_cells.specs.ColumnNames.{range_start_column, range_length_column, read_lock_enabled_column, write_lock_enabled_column, read_locked_column, write_locked_column, lock_on_reset_column, mbr_enable_column, mbr_done_column, mbr_done_on_reset_column};
 ghost use Rattle.sp_cells.specs.ColumnNames.{active_key_column, version_column, encrypt_support_column, max_ranges_column, max_re_encryptions_column, keys_available_cfg_column, alignment_required_column, logical_block_size_column, alignment_granularity_column, lowest_aligned_lba_column, kind_column, rows_column, mandatory_write_granularity_column, recommended_access_granularity_column, active_data_removal_mechanism_column};
-ghost use Rattle.sp_cells.specs.Limits.{most_mbr_sectors, most_datastore_bytes, new_datastore_bytes, opal_mbr_sectors, least_opal_datastore_bytes, cryptographic_erase, most_pin_bytes, most_serial_bytes, most_model_bytes, most_common_name_bytes, most_short_elements, most_elements, new_try_limit, no_try_limit, manufactured_inactive, manufactured};
+ghost use Rattle.sp_cells.specs.Limits.{most_mbr_sectors, most_datastore_bytes, new_datastore_bytes, opal_mbr_sectors, least_opal_datastore_bytes, new_seed, cryptographic_erase, most_pin_bytes, most_serial_bytes, most_model_bytes, most_common_name_bytes, most_short_elements, most_elements, new_try_limit, no_try_limit, manufactured_inactive, manufactured};
 ghost use Rattle.sp_cells.specs.declared.names.TheConstants.{RANGES, USERS, ADMINS};
 ghost use Rattle.sp_cells.specs.declared.names.TheConstants.Uid as uids;
 ghost use Rattle.sp_cells.specs.declared.names.TheConstants.Column as columns;
@@ -171,6 +171,7 @@ pub fn laws_of_limits()
         × (opal_mbr_sectors ≡ 262144) }
     ensures opal_datastore { (limits.LEAST_OPAL_DATASTORE_BYTES ≡ least_opal_datastore_bytes)
         × (least_opal_datastore_bytes ≡ 10485760) }
+    ensures seed { (limits.NEW_SEED ≡ new_seed) × (new_seed ≡ 0) }
     ensures removal { (limits.CRYPTOGRAPHIC_ERASE ≡ cryptographic_erase)
         × (cryptographic_erase ≡ 2) }
     ensures pin { (limits.MOST_PIN_BYTES ≡ most_pin_bytes) × (most_pin_bytes ≡ 32) }

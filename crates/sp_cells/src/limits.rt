@@ -15,6 +15,9 @@ pub const OPAL_MBR_SECTORS: u64 = 262_144;
 /// The least bytes of DataStore of an Opal drive, which has them where none are told.
 pub const LEAST_OPAL_DATASTORE_BYTES: u64 = 10_485_760;
 
+/// The seed of the random bytes of a drive that is given none.
+pub const NEW_SEED: u64 = 0;
+
 /// The most bytes of a PIN.
 pub const MOST_PIN_BYTES: usize = 32;
 

@@ -7,9 +7,9 @@ use Rattle.tcg_tokens.specs.Tree.{Tree, number, bytes, list, named}
 use Rattle.sp_cells.specs.declared.names.Uid.{Uid}
 use Rattle.sp_cells.specs.declared.names.Sp.{Sp}
 use Rattle.sp_cells.specs.declared.names.Sp.TheVariants.{Admin, Locking}
-use Rattle.sp_cells.specs.Names.{uid, mbr_table, datastore_table, get, set, authenticate, activate, revert, gen_key, revert_sp, next, get_acl}
+use Rattle.sp_cells.specs.Names.{uid, mbr_table, datastore_table, get, set, authenticate, activate, revert, gen_key, revert_sp, next, get_acl, random}
 use Rattle.tcg_calls.specs.declared.call_shapes.ask.Ask.{Ask}
-use Rattle.tcg_calls.specs.declared.call_shapes.ask.Ask.TheVariants.{GetCells, GetBytes, SetCells, SetBytes, Authenticate, Activate, Revert, GenKey, RevertSp, Next, GetAcl, Other}
+use Rattle.tcg_calls.specs.declared.call_shapes.ask.Ask.TheVariants.{GetCells, GetBytes, SetCells, SetBytes, Authenticate, Activate, Revert, GenKey, RevertSp, Next, GetAcl, Random, Other}
 use Rattle.tcg_calls.specs.Parameters.{start_row_parameter, end_row_parameter, start_column_parameter, end_column_parameter, where_parameter, values_parameter, next_where_parameter, next_count_parameter, proof_parameter, keep_global_range_key_parameter}
 use Rattle.tcg_calls.specs.Named.{list_in, assignments, value_of, options, number_or, number_if_any, bytes_or_empty}
 
@@ -172,6 +172,11 @@ abbrev pub get_acl_of : List Tree → Option Ask
 get_acl_of (object ∷ method ∷ []) = line_asked (uid_in object) (uid_in method)
 get_acl_of _ = None
 
+-- Random: how many bytes. It has no BufferOut (Core 2.01, section 5.6.4.1)
+abbrev pub random_of : List Tree → Option Ask
+random_of (number count ∷ []) = Some (Random count)
+random_of _ = None
+
 -- the methods that the field and the opal profile have besides; the base profile does not know their names
 abbrev pub field_ask_of : Uid → List Tree → Option Ask
 field_ask_of method args =
@@ -184,6 +189,7 @@ abbrev pub opal_ask_of : Uid → List Tree → Option Ask
 opal_ask_of method args =
     if method.0 == next.0 then next_of args else
     if method.0 == get_acl.0 then get_acl_of args else
+    if method.0 == random.0 then random_of args else
     field_ask_of method args
 
 abbrev pub other_ask_of : Profile → Uid → List Tree → Option Ask

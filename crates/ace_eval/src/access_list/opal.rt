@@ -34,6 +34,7 @@ fn own_row(sp: Sp, object: Uid, method: Uid) -> Option<ArrayVec<Uid, 4>>
 {
     match (object, method) {
         (Uid::ACCESS_CONTROL, Uid::GET_ACL)
+        | (Uid::THIS_SP, Uid::RANDOM)
         | (Uid::SP_INFO | Uid::SP_TEMPLATE_BASE | Uid::SP_TEMPLATE_OWN, Uid::GET) => {
             Some(one(Uid::ACE_ANYBODY))
         }

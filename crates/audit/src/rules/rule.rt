@@ -59,6 +59,12 @@ pub enum Rule {
     BrokenOff,
     /// What was sent to the session manager calls neither of its methods, and was discarded (the same section).
     Discarded,
+    /// What carries no subpacket ended the session that it was sent to (Opal SSC 2.01, section 3.3.4.1.3).
+    NoSubpacket,
+    /// What was sent to the stack of a ComID does not reset it (Core 2.01, section 3.3.4.7.5).
+    NoStackReset,
+    /// A Random asks for more bytes than it gives (Core 2.01, section 5.6.4.1; Opal SSC 2.01, section 4.2.6).
+    ManyRandomBytes,
     /// The row behind which a Next should go on is none of its table (Core 2.01, section 5.3.3.8).
     NoSuchRow,
     /// The access list has no line for the object and the method that a GetACL names (Core 2.01, section 5.3.3.13).

@@ -5,7 +5,7 @@ ghost use Rattle.std.specs.Int.{w64, from_be_bytes};
 ghost use Rattle.tcg_tokens.specs.Tree.{tree};
 ghost use Rattle.tcg_calls.specs.Named.{options as options_of, pair_of};
 ghost use Rattle.tcg_calls.specs.Parameters.{start_row_parameter, end_row_parameter, start_column_parameter, end_column_parameter, next_where_parameter, next_count_parameter};
-ghost use Rattle.tcg_calls.specs.Asks.{uid_of as uid_of_octets, uid_by, uid_in as uid_of_tree, is_mbr_table as is_mbr_table_of, is_datastore as is_datastore_of, is_byte_table as is_byte_table_of, cellblock, columns_asked_in, rows_in, cells_in, bytes_in, proof_in, attempt_in, without_arguments as without_arguments_of, get_of, set_of, revert_sp_in, row_if_any as row_if_any_in, next_of, get_acl_of, field_ask_of, opal_ask_of, other_ask_of, ask_of as ask_by};
+ghost use Rattle.tcg_calls.specs.Asks.{uid_of as uid_of_octets, uid_by, uid_in as uid_of_tree, is_mbr_table as is_mbr_table_of, is_datastore as is_datastore_of, is_byte_table as is_byte_table_of, cellblock, columns_asked_in, rows_in, cells_in, bytes_in, proof_in, attempt_in, without_arguments as without_arguments_of, get_of, set_of, revert_sp_in, row_if_any as row_if_any_in, next_of, get_acl_of, random_of, field_ask_of, opal_ask_of, other_ask_of, ask_of as ask_by};
 
 use crate::call_shapes::named::{
     Assignments, Pair, bytes_or_empty, list_in, number_if_any, number_or, read_assignments,
@@ -100,6 +100,11 @@ pub enum Ask<'a> {
     GetAcl {
         object: Uid,
         method: Uid,
+    },
+
+    /// Random: how many bytes.
+    Random {
+        count: u64,
     },
 
     /// A method that the profile does not know.
@@ -310,6 +315,16 @@ fn get_acl_asked<'a>(args: &'a [Value]) -> Option<Ask<'a>>
     Some(Ask::GetAcl { object, method })
 }
 
+/// Random.
+fn random_asked<'a>(args: &'a [Value]) -> Option<Ask<'a>>
+    ensures { result ≡ random_of (map tree args.now) }
+{
+    match args {
+        [Value::Number(count)] => Some(Ask::Random { count: *count }),
+        _ => None,
+    }
+}
+
 /// A method that the field profile has besides; any other takes any arguments.
 fn field_asked<'a>(
     alloc: Global,
@@ -336,6 +351,7 @@ fn opal_asked<'a>(
     match method {
         Uid::NEXT => Ok(next_asked(args)),
         Uid::GET_ACL => Ok(get_acl_asked(args)),
+        Uid::RANDOM => Ok(random_asked(args)),
         _ => field_asked(alloc, method, args),
     }
 }
