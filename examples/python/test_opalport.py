@@ -152,7 +152,8 @@ class OnADrive(unittest.TestCase):
                               (Code.PSID, {"psid": b"1"}), (Code.PSID, {"profile": "field", "psid": bytes(33)}),
                               (Code.DATASTORE, {"datastore": 1}),
                               (Code.SHADOW, {"profile": "opal", "shadow": 262_143}), (Code.DATASTORE, {"profile": "opal", "datastore": 10_485_759}),
-                              (Code.DATASTORE, {"profile": "field", "datastore": 2**64 - 1})):
+                              (Code.DATASTORE, {"profile": "field", "datastore": 2**64 - 1}),
+                              (Code.SEED, {"seed": 1}), (Code.SEED, {"profile": "field", "seed": 2**64 - 1})):
             with self.assertRaises(OpalError) as it:
                 make(**options)
             self.assertEqual(it.exception.code, code)

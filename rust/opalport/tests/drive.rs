@@ -106,6 +106,7 @@ fn what_a_caller_gets_wrong_is_an_error() {
         (field(Label { model: "x".repeat(41).as_str(), ..Label::default() }), Error::Model),
         (field(Label { psid: &[0; 33], ..Label::default() }), Error::Psid),
         (field(Label { datastore: Some(1 << 24 | 1), ..Label::default() }), Error::Datastore),
+        (field(Label { seed: 1, ..Label::default() }), Error::Seed),
         (Config { label: Label { serial: "1", ..Label::default() }, ..Config::default() }, Error::Serial),
         (Config { shadow: 262_143, ..Config::opal() }, Error::Shadow),
         (Config { label: Label { datastore: Some(10_485_759), ..Label::default() }, ..Config::opal() }, Error::Datastore),
