@@ -175,7 +175,8 @@ IsStoreFault profile texts faults.SeedBelowOpal =
     × (may_have_seed profile texts ≡ false)
 IsStoreFault profile texts faults.Datastore =
     (may_have_names profile texts ≡ true) × (may_have_store profile texts ≡ true)
-    × (may_have_seed profile texts ≡ true) × (store_of profile texts.datastore ≡ None)
+    × (may_have_seed profile texts ≡ true)
+    × (store_of profile texts.datastore ≡ None)
 IsStoreFault profile texts faults.EmptyName =
     (may_have_names profile texts ≡ true) × (may_have_store profile texts ≡ true)
     × (may_have_seed profile texts ≡ true) × (store_of profile texts.datastore ≡ None → ⊥)
