@@ -1,6 +1,6 @@
 -- What is kept beside rows and sessions, so that no transaction has part in it: whether SID is blocked, how many random bytes
 -- were given, and of each ComID what its host takes, and whether a reset of its stack is to be told.
-use Rattle.std.specs.Prelude.{ℕ, ◌+◌, ◌-◌, ◌*◌, ◌/◌, ◌%◌, ◌^◌, min, Bool, true, false, List, replicate, slice_index_or, slice_set}
+use Rattle.std.specs.Prelude.{ℕ, ◌+◌, ◌-◌, ◌*◌, ◌/◌, ◌%◌, ◌^◌, ◌<◌, min, Bool, true, false, List, replicate, slice_index_or, slice_set}
 use Rattle.basics.specs.declared.profile.Profile.{Profile}
 use Rattle.basics.specs.declared.profile.Profile.TheVariants.{Base, Field, Opal}
 use Rattle.device_data.specs.Discovery.{first_com_id, com_ids}
@@ -14,6 +14,12 @@ use Rattle.sessions.specs.Block.{block_at_reset}
 -- what each host takes: MaxComPacketSize, MaxPacketSize, MaxIndTokenSize (Opal SSC 2.01, section 4.1.1.1)
 abbrev pub least_limits : HostLimits
 least_limits = record { com_packet = 2048; packet = 2028; token = 1992 }
+
+-- as a number of 64 bits each
+pub record IsSmall (limits : HostLimits) : Type 0 where
+  pub com_packet_small : limits.com_packet < 2 ^ 64
+  pub packet_small : limits.packet < 2 ^ 64
+  pub token_small : limits.token < 2 ^ 64
 
 -- a ComID of which nothing was told, and whose stack nothing has reset
 abbrev pub new_channel : Channel
