@@ -48,6 +48,7 @@ is_own profile GenKey method = is_own_of_field profile gen_key method
 is_own profile (RevertSp keep) method = is_own_of_field profile revert_sp method
 is_own profile (Next after count) method = is_own_of_opal profile next method
 is_own profile (GetAcl about what) method = is_own_of_opal profile get_acl method
+is_own profile (Random count) method = is_own_of_opal profile random method
 is_own profile Other method = true
 
 -- a method of the field profile
@@ -185,6 +186,17 @@ acl-gives p (object ∷ []) h = gives-none p
 acl-gives p (object ∷ method ∷ []) h = line-gives p (uid_in object) (uid_in method) h
 acl-gives p (object ∷ method ∷ t ∷ ts) h = gives-none p
 
+random-gives : (p : Ask → Bool) (args : List Tree) → ((count : ℕ) → p (Random count) ≡ true) → Gives p (random_of args)
+random-gives p [] h = gives-none p
+random-gives p (number count ∷ []) h = gives-some p (Random count) (h count)
+random-gives p (bytes b ∷ []) h = gives-none p
+random-gives p (list ts ∷ []) h = gives-none p
+random-gives p (named n v ∷ []) h = gives-none p
+random-gives p (number count ∷ t ∷ ts) h = gives-none p
+random-gives p (bytes b ∷ t ∷ ts) h = gives-none p
+random-gives p (list us ∷ t ∷ ts) h = gives-none p
+random-gives p (named n v ∷ t ∷ ts) h = gives-none p
+
 other-gives : (profile : Profile) (method : Uid) (args : List Tree) → Gives (λ ask. is_own profile ask method) (other_ask_of profile method args)
 other-gives Base method args = gives-some (λ ask. is_own Base ask method) Other refl
 other-gives Field method args =
@@ -195,8 +207,9 @@ other-gives Opal method args =
     let p : Ask → Bool = λ ask. is_own Opal ask method in
     by-test p (method.0 == next.0) _ _ (λ is. next-gives p (options (next_where_parameter ∷ next_count_parameter ∷ []) args) (λ after count. is)) (λ no_next.
     by-test p (method.0 == get_acl.0) _ _ (λ is. acl-gives p args (λ about what. is)) (λ no_acl.
+    by-test p (method.0 == random.0) _ _ (λ is. random-gives p args (λ count. is)) (λ no_random.
     by-test p (method.0 == gen_key.0) _ _ (λ is. nothing-gives p GenKey args is) (λ no_key.
-    by-test p (method.0 == revert_sp.0) _ _ (λ is. keep-gives p (options (keep_global_range_key_parameter ∷ []) args) (λ keep. is)) (λ no_revert. gives-some p Other refl))))
+    by-test p (method.0 == revert_sp.0) _ _ (λ is. keep-gives p (options (keep_global_range_key_parameter ∷ []) args) (λ keep. is)) (λ no_revert. gives-some p Other refl)))))
 
 asked-gives : (profile : Profile) (sp : Sp) (object method : Uid) (args : List Tree) → Gives (λ ask. is_own profile ask method) (ask_of profile sp object method args)
 asked-gives profile sp object method args =

@@ -83,7 +83,7 @@ listed-alike profile look sp object first last held other h =
     ap (λ p. flat_map (λ k. shown_column k (look sp object k)) (filter p (columns_of (kind_of sp object)))) (fun_ext (λ k. ap (λ x. is_asked first last k && is_some x) (entry-alike profile look sp object get (Some k) held other h)))
 
 done-alike : (s : Standing) (other : List Uid) → SameHeld s.held other → (object : Uid) (ask : Ask) → does_ask (with_held s other) object ask ≡ does_ask s object ask
-done-alike s other h object (GetCells a b) = ap (λ values. gives (list (trees_of (map cell_value values)) ∷ [])) (listed-alike s.profile s.rows s.sp object a b s.held other h)
+done-alike s other h object (GetCells a b) = ap (λ values. gives s.room (list (trees_of (map cell_value values)) ∷ [])) (listed-alike s.profile s.rows s.sp object a b s.held other h)
 done-alike s other h object (GetBytes a b) = refl
 done-alike s other h object (SetCells values) = refl
 done-alike s other h object (SetBytes a b) = refl
@@ -94,6 +94,7 @@ done-alike s other h object GenKey = refl
 done-alike s other h object (RevertSp keep) = refl
 done-alike s other h object (Next after count) = refl
 done-alike s other h object (GetAcl about what) = refl
+done-alike s other h object (Random count) = refl
 done-alike s other h object Other = refl
 
 pub judged-alike : (s : Standing) (other : List Uid) → SameHeld s.held other → (object method : Uid) (ask : Option Ask) → judged (with_held s other) object method ask ≡ judged s object method ask

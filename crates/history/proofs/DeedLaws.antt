@@ -21,7 +21,7 @@ use Rattle.tcg_tokens.specs.declared.error.TokenError.{TokenError}
 use Rattle.tcg_tokens.specs.Message.{Message, call, reply, end_session, begin, end}
 use Rattle.tcg_tokens.specs.Tree.{Tree, Trees}
 use Rattle.history.specs.Opening.{Origin}
-use Rattle.sessions.specs.Deeds.{Sets, Begun, Setting, cells_set, bytes_set, SessionDeed, Unchanged, Started, Tried, Changed, Began, Committed, Aborted, Ended, Activated, Reverted, Erased, Outcome, says, refuses as refuses_item}
+use Rattle.sessions.specs.Deeds.{Sets, Begun, Setting, cells_set, bytes_set, SessionDeed, Unchanged, Started, Tried, Changed, Began, Committed, Aborted, Ended, Activated, Reverted, Erased, Drew, HostTold, StackReset, StackTold, Outcome, says, refuses as refuses_item}
 use Rattle.sp_cells.specs.ColumnNames.{pin_column}
 use Rattle.sessions.specs.Attempts.{attempt_failure as failure_of}
 use Rattle.tcg_calls.specs.Asks.{uid_of}
@@ -63,10 +63,10 @@ use Rattle.history.specs.Tcg.{start_verdict, deed_of_start, start_deed, started,
 use Rattle.methods.specs.Calls.{tried_in, outcome_of}
 use Rattle.history.specs.Deeds.{IsIn, IsOutside, is_set_in_admin, is_of_row, is_inside, CanDo, DeedLaw}
 use Rattle.history.proofs.Words.{latest-here, latest-skip, sp-is, sp-same}
-use Rattle.history.proofs.Items.{item-from}
+use Rattle.history.proofs.Items.{item-from, stack_deed}
 use Rattle.history.proofs.MethodProofs.{denial-none, granted-row}
 use Rattle.history.proofs.Asked.{is_own, own-of-field, gen-key-locking, revert-sp-locking, asked-own, activate-admin, revert-admin, set-in-admin}
-use Rattle.audit.specs.declared.rules.rule.Rule.TheVariants.{NoMethod, NotInUse, SpBusy, NoNumber, OutsideTable, TooLong, GlobalLocked}
+use Rattle.audit.specs.declared.rules.rule.Rule.TheVariants.{NoMethod, NotInUse, SpBusy, NoNumber, OutsideTable, TooLong, GlobalLocked, ManyRandomBytes}
 use Rattle.audit.specs.declared.rules.rule.Rule.{Rule}
 
 -- the kinds of judgements, a refusal being 0, and of asks
@@ -74,6 +74,7 @@ abbrev kind : Judgement → ℕ
 kind (Denies why) = 0
 kind (Refuses status rule) = 0
 kind (Gives results) = 1
+kind (Draws count results) = 8
 kind (Makes setting) = 2
 kind (Attempts block authority pin) = 3
 kind Activates = 4
@@ -93,6 +94,7 @@ ask_kind GenKey = 6
 ask_kind (RevertSp keep) = 7
 ask_kind (Next after count) = 1
 ask_kind (GetAcl about what) = 1
+ask_kind (Random count) = 8
 ask_kind Other = 0
 
 zero-one : {k : ℕ} → 0 ≡ suc k → ⊥
@@ -102,17 +104,17 @@ kind-if : (b : Bool) (x y : Judgement) (k n : ℕ) → kind x ≡ 0 → (kind y 
 kind-if false x y k n z h g = h g
 kind-if true x y k n z h g = absurd (zero-one (sym z ∙ g))
 
-gives-kind : (results : List Tree) (k : ℕ) → kind (gives results) ≡ suc k → 1 ≡ suc k
-gives-kind results k h = by_carried (is_carried (reply_of results success)) h
+gives-kind : (room : ℕ) (results : List Tree) (k : ℕ) → kind (gives room results) ≡ suc k → 1 ≡ suc k
+gives-kind room results k h = by_carried (fits room results) h
   where
     by_carried : (b : Bool) → kind (cond b (Gives results) (Refuses 0x11 TooLong)) ≡ suc k → 1 ≡ suc k
     by_carried true g = g
     by_carried false g = absurd (zero-one g)
 
-rows-kind : (byte : ℕ → ℕ) (size first last : ℕ) (k : ℕ) → kind (rows_given byte size first last) ≡ suc k → 1 ≡ suc k
-rows-kind byte size first last k h =
+rows-kind : (room : ℕ) (byte : ℕ → ℕ) (size first last : ℕ) (k : ℕ) → kind (rows_given room byte size first last) ≡ suc k → 1 ≡ suc k
+rows-kind room byte size first last k h =
     kind-if ((size == 0) || (nat_le size last || nat_lt last first)) (Refuses 0x0c OutsideTable) _ k 1 refl
-    (kind-if (nat_lt most_response (last + 1 - first)) (Refuses 0x11 TooLong) (gives (bytes_between byte first last)) k 1 refl (gives-kind (bytes_between byte first last) k)) h
+    (kind-if (nat_lt room (last + 1 - first)) (Refuses 0x11 TooLong) (gives room (bytes_between byte first last)) k 1 refl (gives-kind room (bytes_between byte first last) k)) h
 
 makes-kind : (x : Result Setting Rule) (k : ℕ) → kind (makes x) ≡ suc k → 2 ≡ suc k
 makes-kind (Err rule) k h = absurd (zero-one h)
@@ -130,17 +132,25 @@ reverts-kind : (b keep : Bool) (k : ℕ) → kind (cond b (Refuses 0x3f GlobalLo
 reverts-kind true keep k h = absurd (zero-one h)
 reverts-kind false keep k h = h
 
-told-kind : (x : Option (List Uid)) (k : ℕ) → kind (rows_told x) ≡ suc k → 1 ≡ suc k
-told-kind None k h = absurd (zero-one h)
-told-kind (Some rows) k h = gives-kind (uids_tree rows ∷ []) k h
+told-kind : (room : ℕ) (x : Option (List Uid)) (k : ℕ) → kind (rows_told room x) ≡ suc k → 1 ≡ suc k
+told-kind room None k h = absurd (zero-one h)
+told-kind room (Some rows) k h = gives-kind room (uids_tree rows ∷ []) k h
 
-acl-kind : (x : Option (List Uid)) (k : ℕ) → kind (acl_told x) ≡ suc k → 1 ≡ suc k
-acl-kind None k h = absurd (zero-one h)
-acl-kind (Some acl) k h = gives-kind (uids_tree acl ∷ []) k h
+acl-kind : (room : ℕ) (x : Option (List Uid)) (k : ℕ) → kind (acl_told room x) ≡ suc k → 1 ≡ suc k
+acl-kind room None k h = absurd (zero-one h)
+acl-kind room (Some acl) k h = gives-kind room (uids_tree acl ∷ []) k h
+
+draws-kind : (room : ℕ) (random : ℕ → List ℕ) (count k : ℕ) → kind (draws room random count) ≡ suc k → 8 ≡ suc k
+draws-kind room random count k h =
+    kind-if (nat_lt 32 count) (Refuses 0x0c ManyRandomBytes) _ k 8 refl (by_room (fits room (bytes (random count) ∷ []))) h
+  where
+    by_room : (b : Bool) → kind (cond b (Draws count (bytes (random count) ∷ [])) (Refuses 0x11 TooLong)) ≡ suc k → 8 ≡ suc k
+    by_room true g = g
+    by_room false g = absurd (zero-one g)
 
 does-kind : (s : Standing) (object : Uid) (ask : Ask) (k : ℕ) → kind (does_ask s object ask) ≡ suc k → ask_kind ask ≡ suc k
-does-kind s object (GetCells first last) k h = gives-kind (listing s object first last) k h
-does-kind s object (GetBytes first last) k h = rows-kind (λ row. s.byte (table_begin s.sizes (byte_table_of (kind_of s.sp object)) + row)) (bytes_of_table s.sizes (byte_table_of (kind_of s.sp object))) first (last_row (bytes_of_table s.sizes (byte_table_of (kind_of s.sp object))) last) k h
+does-kind s object (GetCells first last) k h = gives-kind s.room (listing s object first last) k h
+does-kind s object (GetBytes first last) k h = rows-kind s.room (λ row. s.byte (table_begin s.sizes (byte_table_of (kind_of s.sp object)) + row)) (bytes_of_table s.sizes (byte_table_of (kind_of s.sp object))) first (last_row (bytes_of_table s.sizes (byte_table_of (kind_of s.sp object))) last) k h
 does-kind s object (SetCells values) k h = makes-kind (to_set s object (SetCells values)) k h
 does-kind s object (SetBytes place content) k h = makes-kind (to_set s object (SetBytes place content)) k h
 does-kind s object (Authenticate a pin) k h = h
@@ -148,8 +158,9 @@ does-kind s object Activate k h = (open-kind s.is_open Activates k h).0
 does-kind s object Revert k h = (open-kind s.is_open (Reverts (sp_of_row object)) k h).0
 does-kind s object GenKey k h = erases-kind (key_number object) k (open-kind s.is_open (erases (key_number object)) k h).0
 does-kind s object (RevertSp keep) k h = reverts-kind (keep && is_wholly_locked s.rows) keep k (open-kind s.is_open (reverts_sp s.rows keep) k h).0
-does-kind s object (Next after count) k h = told-kind (rows_asked after count (rows_of_table s.sp (table_of object))) k h
-does-kind s object (GetAcl about what) k h = acl-kind (acl_at s.profile s.sp about what) k h
+does-kind s object (Next after count) k h = told-kind s.room (rows_asked after count (rows_of_table s.sp (table_of object))) k h
+does-kind s object (GetAcl about what) k h = acl-kind s.room (acl_at s.profile s.sp about what) k h
+does-kind s object (Random count) k h = draws-kind s.room s.random count k h
 does-kind s object Other k h = absurd (zero-one h)
 
 -- a judgement that is no refusal: its ask is of the method, the method is offered, and it is what the ask comes to
@@ -190,6 +201,7 @@ activate-is profile GenKey method own h = cc
 activate-is profile (RevertSp keep) method own h = cc
 activate-is profile (Next after count) method own h = cc
 activate-is profile (GetAcl about what) method own h = cc
+activate-is profile (Random count) method own h = cc
 activate-is profile Other method own h = cc
 
 revert-is : (profile : Profile) (ask : Ask) (method : Uid) → is_own profile ask method ≡ true → ask_kind ask ≡ 5 → (ask ≡ Revert) × ((method.0 == revert.0) ≡ true)
@@ -204,6 +216,7 @@ revert-is profile GenKey method own h = cc
 revert-is profile (RevertSp keep) method own h = cc
 revert-is profile (Next after count) method own h = cc
 revert-is profile (GetAcl about what) method own h = cc
+revert-is profile (Random count) method own h = cc
 revert-is profile Other method own h = cc
 
 activates-outside : (s : Standing) (object method : Uid) → Granted s object method 3 Activates → (s.sp ≡ Admin) × (s.is_open ≡ false)
@@ -226,6 +239,7 @@ gen-key-is profile GenKey method own h = let f = own-of-field profile gen_key me
 gen-key-is profile (RevertSp keep) method own h = cc
 gen-key-is profile (Next after count) method own h = cc
 gen-key-is profile (GetAcl about what) method own h = cc
+gen-key-is profile (Random count) method own h = cc
 gen-key-is profile (GetCells a b) method own h = cc
 gen-key-is profile (GetBytes a b) method own h = cc
 gen-key-is profile (SetCells a) method own h = cc
@@ -246,6 +260,7 @@ revert-sp-is profile (RevertSp keep) method own h = let f = own-of-field profile
 revert-sp-is profile GenKey method own h = cc
 revert-sp-is profile (Next after count) method own h = cc
 revert-sp-is profile (GetAcl about what) method own h = cc
+revert-sp-is profile (Random count) method own h = cc
 revert-sp-is profile (GetCells a b) method own h = cc
 revert-sp-is profile (GetBytes a b) method own h = cc
 revert-sp-is profile (SetCells a) method own h = cc
@@ -309,6 +324,7 @@ asked-fit p sp sectors object fit types GenKey set h = absurd (none-some h)
 asked-fit p sp sectors object fit types (RevertSp keep) set h = absurd (none-some h)
 asked-fit p sp sectors object fit types (Next after count) set h = absurd (none-some h)
 asked-fit p sp sectors object fit types (GetAcl about what) set h = absurd (none-some h)
+asked-fit p sp sectors object fit types (Random count) set h = absurd (none-some h)
 asked-fit p sp sectors object fit types Other set h = absurd (none-some h)
 
 bytes-if : (p : Setting → Bool) (place : ℕ) (content : List ℕ) (b : Bool) (set : Setting) → (b ≡ true → p (bytes_set place content) ≡ true) → cond b (Some (bytes_set place content)) None ≡ Some set → p set ≡ true
@@ -328,6 +344,7 @@ bytes-fit p Locking sizes table object fit GenKey set h = absurd (none-some h)
 bytes-fit p Locking sizes table object fit (RevertSp keep) set h = absurd (none-some h)
 bytes-fit p Locking sizes table object fit (Next after count) set h = absurd (none-some h)
 bytes-fit p Locking sizes table object fit (GetAcl about what) set h = absurd (none-some h)
+bytes-fit p Locking sizes table object fit (Random count) set h = absurd (none-some h)
 bytes-fit p Locking sizes table object fit Other set h = absurd (none-some h)
 
 setting-fit : (profile : Profile) (p : Setting → Bool) (sp : Sp) (sizes : TableSizes) (object : Uid) → AreFit p sp (sectors_of sizes) object → (k : Option Kind) (ask : Ask) (set : Setting) → setting profile sp sizes object k ask ≡ Some set → p set ≡ true
@@ -381,6 +398,7 @@ makes-fit p s object fit GenKey c k h = cc
 makes-fit p s object fit (RevertSp keep) c k h = cc
 makes-fit p s object fit (Next after count) c k h = cc
 makes-fit p s object fit (GetAcl about what) c k h = cc
+makes-fit p s object fit (Random count) c k h = cc
 makes-fit p s object fit Other c k h = cc
 
 row-fit : (p : Uid → Bool) (s : Standing) (object : Uid) → p object ≡ true → AreFit (λ y. is_of_row p (Sets y)) s.sp (sectors_of s.sizes) object
@@ -411,6 +429,7 @@ set-is profile GenKey method own h = cc
 set-is profile (RevertSp keep) method own h = cc
 set-is profile (Next after count) method own h = cc
 set-is profile (GetAcl about what) method own h = cc
+set-is profile (Random count) method own h = cc
 set-is profile Other method own h = cc
 
 makes-one : (s : Standing) (object method : Uid) (c : Setting) → Granted s object method 1 (Makes c) → s.sp ≡ Admin → is_of_row (is_set_in_admin s.profile) (Sets c) ≡ true
@@ -447,6 +466,14 @@ lives-on sp (Committed t) s h = cc
 lives-on sp (Aborted t) s h = cc
 lives-on sp (Activated pin) s h = cc
 lives-on sp (Erased w) s h = cc
+lives-on sp (Drew count) s h = cc
+lives-on sp (HostTold com_id limits) s h = cc
+lives-on sp (StackTold com_id) s h = cc
+lives-on sp (StackReset com_id ends) s h = by_sp (ends sp) h
+  where
+    by_sp : (b : Bool) → cond b gone None ≡ Some (Some s) → s.sp ≡ sp
+    by_sp true k = cc
+    by_sp false k = cc
 
 living-on : (sp : Sp) (d : Deed) (s : Begun) → living sp d ≡ Some (Some s) → s.sp ≡ sp
 living-on sp (InSession d r) s h = lives-on sp d s h
@@ -478,6 +505,7 @@ judged-can : (o : Origin) (past : List Event) (s : Begun) → session_on past s.
 judged-can o past s h object method args (Denies why) is = tt
 judged-can o past s h object method args (Refuses status rule) is = tt
 judged-can o past s h object method args (Gives results) is = tt
+judged-can o past s h object method args (Draws count results) is = tt
 judged-can o past s h object method args (Makes c) is = record {
   session = s;
   lives = record { lives = h; on = refl };
@@ -578,7 +606,7 @@ begins-new look l sp sp' x true false false is lives h =
 
 start-new : (look : LookUp) (l : Live) (opening : Opening) (sp : Sp) (x : Option Sp) → opening_verdict_on look l opening x ≡ Attempted sp None → (lives_on sp l ≡ false) × (is_in_use look sp ≡ true)
 start-new look l opening sp None h = cc
-start-new look l opening sp (Some sp') h = begins-new look l sp sp' (failure_of l.block look sp' opening.authority opening.proof) (is_in_use look sp') (lives_on sp' l) (is_full l) refl refl h
+start-new look l opening sp (Some sp') h = begins-new look l sp sp' (failure_of l.beside.block look sp' opening.authority opening.proof) (is_in_use look sp') (lives_on sp' l) (is_full l) refl refl h
 
 started-can : (o : Origin) (past : List Event) (com_id : ℕ) (x : Option Opening) → CanDo o past (start_deed (facts o past) com_id x)
 started-can o past com_id None = tt
@@ -595,9 +623,13 @@ either-can : (o : Origin) (past : List Event) (b : Bool) (x y : Outcome) → Can
 either-can o past true x y h g = h
 either-can o past false x y h g = g
 
+told-can : (o : Origin) (past : List Event) (com_id : ℕ) (x : Option HostLimits) → CanDo o past (told_deed com_id x)
+told-can o past com_id None = tt
+told-can o past com_id (Some limits) = tt
+
 manager-can : (o : Origin) (past : List Event) (com_id : ℕ) (read : Result Message TokenError) → CanDo o past (to_manager (facts o past) com_id read).deed
 manager-can o past com_id (Ok (call object method args status)) =
-    either-can o past (is_method_of_manager properties (uid_of object) (uid_of method)) (says Unchanged (properties_message (facts o past).config.profile (values_of args))) _ tt
+    either-can o past (is_method_of_manager properties (uid_of object) (uid_of method)) (properties_told (facts o past) com_id (values_of args)) _ (told-can o past com_id (host_told (facts o past).config.profile (channel_of (beside past) com_id).limits (values_of args)))
     (either-can o past (is_method_of_manager start_session (uid_of object) (uid_of method)) (started (facts o past) com_id (values_of args)) (refuses_item (refusal_of fail) NoMethod) (started-can o past com_id (opening_of (facts o past).config.profile (values_of args))) tt)
 manager-can o past com_id (Ok (reply results status)) = tt
 manager-can o past com_id (Ok (begin n)) = tt
@@ -605,10 +637,16 @@ manager-can o past com_id (Ok (end n)) = tt
 manager-can o past com_id (Ok end_session) = tt
 manager-can o past com_id (Err e) = tt
 
+-- what is asked of the stack of a ComID
+stack-can : (o : Origin) (past : List Event) (com_id : ℕ) (b : Bool) → CanDo o past (stack_deed (facts o past) com_id b)
+stack-can o past com_id true = λ sp. refl
+stack-can o past com_id false = tt
+
 pub deed_law : DeedLaw
 deed_law o past act deed response is = elim (item-from (facts o past) act deed response is) [
   | inl m ↦ can-by m.does (manager-can o past m.com_id m.read)
-  | inr s ↦ can-by s.does (session-can o past s.session (ap (session_on past) (session-on past s.sp s.session s.lives) ∙ s.lives) s.read)
+  | inr (inl s) ↦ can-by s.does (session-can o past s.session (ap (session_on past) (session-on past s.sp s.session s.lives) ∙ s.lives) s.read)
+  | inr (inr t) ↦ can-by t.does (stack-can o past t.com_id t.is_reset)
 ]
   where
     can-by : {x y : SessionDeed} → x ≡ y → CanDo o past y → CanDo o past x

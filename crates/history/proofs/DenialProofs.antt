@@ -55,7 +55,7 @@ use Rattle.device_data.specs.Discovery.{has_owner}
 use Rattle.history.specs.Events.{Nothing, Wrote, Took, HeldCommand, Event, did, WasReset, BlockedSid, ignores}
 use Rattle.history.specs.Facts.{Facts, session_named, has_open, standing}
 use Rattle.history.specs.Decisions.{not_found, fails, refuses, aborted, fails_queue, on_drive, verdict_on, queued_by, admitted, unqueued_by, is_trusted, is_session_com_id, discovery_com_id, received, while_failed, is_busy, completed_by, completed, resets, is_received, unreceived}
-use Rattle.history.specs.Tcg.{answers, is_opal, breaks_off, broken_off, is_discarded, manager_event, start_verdict, started_by, started, is_method_of_manager, to_manager, judgement_on, begins_on, ends_on, in_session, is_manager, to_session, framed, sent, unqueued, known, commanded, tcg, command_read, item_in, blocks_sid, send_item, send, unsent, is_sent}
+use Rattle.history.specs.Tcg.{answers, breaks_off, broken_off, is_discarded, manager_event, start_verdict, started_by, started, is_method_of_manager, to_manager, judgement_on, begins_on, ends_on, in_session, is_manager, to_session, framed, sent, unqueued, known, commanded, tcg, command_read, item_in, blocks_sid, send_item, send, unsent, is_sent}
 use Rattle.methods.specs.Calls.{tried_in, outcome_of}
 use Rattle.history.specs.History.{Act, Accept, Complete, Reset, SoftwareReset, event_by}
 use Rattle.history.specs.MethodLaws.{IsLookedAt, IsSent, IsCall}
@@ -102,7 +102,7 @@ attempt-denied f act why d =
     ∙ ap (λ y. Some y) (sym d.why_is)
 
 -- a call of one of its methods is not discarded
-of-manager : (profile : Profile) (p q : Bool) → q ≡ true → (is_opal profile && not (p || q)) ≡ false
+of-manager : (profile : Profile) (p q : Bool) → q ≡ true → (has_opal profile && not (p || q)) ≡ false
 of-manager Base p q h = refl
 of-manager Field p q h = refl
 of-manager Opal true q h = refl
@@ -116,7 +116,7 @@ start-denied f act why d =
     ∙ ap (λ b. (cond b (manager_event f d.com_id d.frame.session (message_in d.frame.payload)) (to_session f d.com_id d.frame.session d.frame.payload (session_named f d.com_id d.frame.session))).denied) d.manager
     ∙ ap (λ r. (manager_event f d.com_id d.frame.session r).denied) d.calls
     ∙ ap (λ b. (cond b (ignores Discarded) (answers d.com_id d.frame.session (to_manager f d.com_id (Ok (call d.object d.method d.args d.status))))).denied) (of-manager f.config.profile (is_method_of_manager properties o m) (is_method_of_manager start_session o m) d.starts)
-    ∙ ap (λ b. (cond b (says Unchanged (properties_message f.config.profile (values_of d.args))) (cond (is_method_of_manager start_session o m) (started f d.com_id (values_of d.args)) (refuses_item (refusal_of fail) NoMethod))).denied) d.no_properties
+    ∙ ap (λ b. (cond b (properties_told f d.com_id (values_of d.args)) (cond (is_method_of_manager start_session o m) (started f d.com_id (values_of d.args)) (refuses_item (refusal_of fail) NoMethod))).denied) d.no_properties
     ∙ ap (λ b. (cond b (started f d.com_id (values_of d.args)) (refuses_item (refusal_of fail) NoMethod)).denied) d.starts
     ∙ ap (λ x. (started_by f d.com_id (host_of (values_of d.args)) x).denied) d.shaped
     ∙ ap (λ v. denied_with (Some d.opening) v) d.fails
@@ -141,6 +141,7 @@ abbrev reason : Judgement → Option Why
 reason (Denies why) = Some why
 reason (Refuses status rule) = None
 reason (Gives results) = None
+reason (Draws count results) = None
 reason (Makes setting) = None
 reason (Attempts block authority pin) = None
 reason Activates = None
@@ -152,13 +153,13 @@ clean-if : (b : Bool) (x y : Judgement) → reason x ≡ None → reason y ≡ N
 clean-if true x y h g = h
 clean-if false x y h g = g
 
-gives-clean : (results : List Tree) → reason (gives results) ≡ None
-gives-clean results = clean-if (is_carried (reply_of results success)) (Gives results) (Refuses 0x11 TooLong) refl refl
+gives-clean : (room : ℕ) (results : List Tree) → reason (gives room results) ≡ None
+gives-clean room results = clean-if (fits room results) (Gives results) (Refuses 0x11 TooLong) refl refl
 
-rows-clean : (byte : ℕ → ℕ) (size first last : ℕ) → reason (rows_given byte size first last) ≡ None
-rows-clean byte size first last =
+rows-clean : (room : ℕ) (byte : ℕ → ℕ) (size first last : ℕ) → reason (rows_given room byte size first last) ≡ None
+rows-clean room byte size first last =
     clean-if ((size == 0) || (nat_le size last || nat_lt last first)) (Refuses 0x0c OutsideTable) _ refl
-    (clean-if (nat_lt most_response (last + 1 - first)) (Refuses 0x11 TooLong) (gives (bytes_between byte first last)) refl (gives-clean (bytes_between byte first last)))
+    (clean-if (nat_lt room (last + 1 - first)) (Refuses 0x11 TooLong) (gives room (bytes_between byte first last)) refl (gives-clean room (bytes_between byte first last)))
 
 makes-clean : (x : Result Setting Rule) → reason (makes x) ≡ None
 makes-clean (Err rule) = refl
@@ -172,17 +173,22 @@ erases-clean : (x : Option ℕ) → reason (erases x) ≡ None
 erases-clean None = refl
 erases-clean (Some range) = refl
 
-told-clean : (x : Option (List Uid)) → reason (rows_told x) ≡ None
-told-clean None = refl
-told-clean (Some rows) = gives-clean (uids_tree rows ∷ [])
+told-clean : (room : ℕ) (x : Option (List Uid)) → reason (rows_told room x) ≡ None
+told-clean room None = refl
+told-clean room (Some rows) = gives-clean room (uids_tree rows ∷ [])
 
-acl-clean : (x : Option (List Uid)) → reason (acl_told x) ≡ None
-acl-clean None = refl
-acl-clean (Some acl) = gives-clean (uids_tree acl ∷ [])
+acl-clean : (room : ℕ) (x : Option (List Uid)) → reason (acl_told room x) ≡ None
+acl-clean room None = refl
+acl-clean room (Some acl) = gives-clean room (uids_tree acl ∷ [])
+
+draws-clean : (room : ℕ) (random : ℕ → List ℕ) (count : ℕ) → reason (draws room random count) ≡ None
+draws-clean room random count =
+    clean-if (nat_lt 32 count) (Refuses 0x0c ManyRandomBytes) _ refl
+    (clean-if (fits room (bytes (random count) ∷ [])) (Draws count (bytes (random count) ∷ [])) (Refuses 0x11 TooLong) refl refl)
 
 done-clean : (s : Standing) (object : Uid) (ask : Ask) → reason (does_ask s object ask) ≡ None
-done-clean s object (GetCells a b) = gives-clean (listing s object a b)
-done-clean s object (GetBytes a b) = rows-clean (λ row. s.byte (table_begin s.sizes (byte_table_of (kind_of s.sp object)) + row)) (bytes_of_table s.sizes (byte_table_of (kind_of s.sp object))) a (last_row (bytes_of_table s.sizes (byte_table_of (kind_of s.sp object))) b)
+done-clean s object (GetCells a b) = gives-clean s.room (listing s object a b)
+done-clean s object (GetBytes a b) = rows-clean s.room (λ row. s.byte (table_begin s.sizes (byte_table_of (kind_of s.sp object)) + row)) (bytes_of_table s.sizes (byte_table_of (kind_of s.sp object))) a (last_row (bytes_of_table s.sizes (byte_table_of (kind_of s.sp object))) b)
 done-clean s object (SetCells values) = makes-clean (to_set s object (SetCells values))
 done-clean s object (SetBytes place content) = makes-clean (to_set s object (SetBytes place content))
 done-clean s object (Authenticate a pin) = refl
@@ -190,8 +196,9 @@ done-clean s object Activate = open-clean s.is_open Activates refl
 done-clean s object Revert = open-clean s.is_open (Reverts (sp_of_row object)) refl
 done-clean s object GenKey = open-clean s.is_open (erases (key_number object)) (erases-clean (key_number object))
 done-clean s object (RevertSp keep) = open-clean s.is_open (reverts_sp s.rows keep) (clean-if (keep && is_wholly_locked s.rows) (Refuses 0x3f GlobalLocked) (RevertsSp keep) refl refl)
-done-clean s object (Next after count) = told-clean (rows_asked after count (rows_of_table s.sp (table_of object)))
-done-clean s object (GetAcl about what) = acl-clean (acl_at s.profile s.sp about what)
+done-clean s object (Next after count) = told-clean s.room (rows_asked after count (rows_of_table s.sp (table_of object)))
+done-clean s object (GetAcl about what) = acl-clean s.room (acl_at s.profile s.sp about what)
+done-clean s object (Random count) = draws-clean s.room s.random count
 done-clean s object Other = refl
 
 does-clean : (s : Standing) (object : Uid) (ask : Ask) → reason (does s object ask) ≡ None
@@ -206,8 +213,8 @@ own-if : (d : SidBlock) (b : Bool) (x y : Judgement) → block-of d x ≡ d → 
 own-if d true x y h g = h
 own-if d false x y h g = g
 
-own-gives : (d : SidBlock) (results : List Tree) → block-of d (gives results) ≡ d
-own-gives d results = own-if d (is_carried (reply_of results success)) (Gives results) (Refuses 0x11 TooLong) refl refl
+own-gives : (d : SidBlock) (room : ℕ) (results : List Tree) → block-of d (gives room results) ≡ d
+own-gives d room results = own-if d (fits room results) (Gives results) (Refuses 0x11 TooLong) refl refl
 
 own-makes : (d : SidBlock) (x : Result Setting Rule) → block-of d (makes x) ≡ d
 own-makes d (Err rule) = refl
@@ -221,22 +228,27 @@ own-erases : (d : SidBlock) (x : Option ℕ) → block-of d (erases x) ≡ d
 own-erases d None = refl
 own-erases d (Some range) = refl
 
-own-rows : (d : SidBlock) (byte : ℕ → ℕ) (size first last : ℕ) → block-of d (rows_given byte size first last) ≡ d
-own-rows d byte size first last =
+own-rows : (d : SidBlock) (room : ℕ) (byte : ℕ → ℕ) (size first last : ℕ) → block-of d (rows_given room byte size first last) ≡ d
+own-rows d room byte size first last =
     own-if d ((size == 0) || (nat_le size last || nat_lt last first)) (Refuses 0x0c OutsideTable) _ refl
-    (own-if d (nat_lt most_response (last + 1 - first)) (Refuses 0x11 TooLong) (gives (bytes_between byte first last)) refl (own-gives d (bytes_between byte first last)))
+    (own-if d (nat_lt room (last + 1 - first)) (Refuses 0x11 TooLong) (gives room (bytes_between byte first last)) refl (own-gives d room (bytes_between byte first last)))
 
-own-told : (d : SidBlock) (x : Option (List Uid)) → block-of d (rows_told x) ≡ d
-own-told d None = refl
-own-told d (Some rows) = own-gives d (uids_tree rows ∷ [])
+own-told : (d : SidBlock) (room : ℕ) (x : Option (List Uid)) → block-of d (rows_told room x) ≡ d
+own-told d room None = refl
+own-told d room (Some rows) = own-gives d room (uids_tree rows ∷ [])
 
-own-acl : (d : SidBlock) (x : Option (List Uid)) → block-of d (acl_told x) ≡ d
-own-acl d None = refl
-own-acl d (Some acl) = own-gives d (uids_tree acl ∷ [])
+own-acl : (d : SidBlock) (room : ℕ) (x : Option (List Uid)) → block-of d (acl_told room x) ≡ d
+own-acl d room None = refl
+own-acl d room (Some acl) = own-gives d room (uids_tree acl ∷ [])
+
+own-draws : (d : SidBlock) (room : ℕ) (random : ℕ → List ℕ) (count : ℕ) → block-of d (draws room random count) ≡ d
+own-draws d room random count =
+    own-if d (nat_lt 32 count) (Refuses 0x0c ManyRandomBytes) _ refl
+    (own-if d (fits room (bytes (random count) ∷ [])) (Draws count (bytes (random count) ∷ [])) (Refuses 0x11 TooLong) refl refl)
 
 own-done : (s : Standing) (object : Uid) (ask : Ask) → block-of s.block (does_ask s object ask) ≡ s.block
-own-done s object (GetCells a b) = own-gives s.block (listing s object a b)
-own-done s object (GetBytes a b) = own-rows s.block (λ row. s.byte (table_begin s.sizes (byte_table_of (kind_of s.sp object)) + row)) (bytes_of_table s.sizes (byte_table_of (kind_of s.sp object))) a (last_row (bytes_of_table s.sizes (byte_table_of (kind_of s.sp object))) b)
+own-done s object (GetCells a b) = own-gives s.block s.room (listing s object a b)
+own-done s object (GetBytes a b) = own-rows s.block s.room (λ row. s.byte (table_begin s.sizes (byte_table_of (kind_of s.sp object)) + row)) (bytes_of_table s.sizes (byte_table_of (kind_of s.sp object))) a (last_row (bytes_of_table s.sizes (byte_table_of (kind_of s.sp object))) b)
 own-done s object (SetCells values) = own-makes s.block (to_set s object (SetCells values))
 own-done s object (SetBytes place content) = own-makes s.block (to_set s object (SetBytes place content))
 own-done s object (Authenticate a pin) = refl
@@ -244,8 +256,9 @@ own-done s object Activate = own-open s.block s.is_open Activates refl
 own-done s object Revert = own-open s.block s.is_open (Reverts (sp_of_row object)) refl
 own-done s object GenKey = own-open s.block s.is_open (erases (key_number object)) (own-erases s.block (key_number object))
 own-done s object (RevertSp keep) = own-open s.block s.is_open (reverts_sp s.rows keep) (own-if s.block (keep && is_wholly_locked s.rows) (Refuses 0x3f GlobalLocked) (RevertsSp keep) refl refl)
-own-done s object (Next after count) = own-told s.block (rows_asked after count (rows_of_table s.sp (table_of object)))
-own-done s object (GetAcl about what) = own-acl s.block (acl_at s.profile s.sp about what)
+own-done s object (Next after count) = own-told s.block s.room (rows_asked after count (rows_of_table s.sp (table_of object)))
+own-done s object (GetAcl about what) = own-acl s.block s.room (acl_at s.profile s.sp about what)
+own-done s object (Random count) = own-draws s.block s.room s.random count
 own-done s object Other = refl
 
 own-denied : (s : Standing) (d : Option Why) (j : Judgement) → block-of s.block j ≡ s.block → block-of s.block (unless_denied d j) ≡ s.block
@@ -266,8 +279,8 @@ refused-is f act why session object method args c (Some ask) is h = by_denial (d
     by_denial None no_why g = absurd (nothing (sym (does-clean (standing f session) (uid_of object) ask) ∙ g))
     by_denial (Some w) some_why g = inr (inl (record { session = session; object = object; method = method; args = args; called = c; ask = ask; shaped = is; denial = some_why ∙ g }))
 
-attempt-is : (f : Facts) (act : Act) (why : Why) (session : Begun) (object method : List ℕ) (args : Trees) → IsCall f act session object method args → (authority : Uid) (pin : List ℕ) → judgement_on f session (uid_of object) (uid_of method) args ≡ Attempts f.block authority pin
-    → (x : Option AttemptFailure) → failure_of f.block f.rows session.sp authority pin ≡ x → (tried_in f.rows session.sp authority x).denied ≡ Some why → IsDenied f act why
+attempt-is : (f : Facts) (act : Act) (why : Why) (session : Begun) (object method : List ℕ) (args : Trees) → IsCall f act session object method args → (authority : Uid) (pin : List ℕ) → judgement_on f session (uid_of object) (uid_of method) args ≡ Attempts f.beside.block authority pin
+    → (x : Option AttemptFailure) → failure_of f.beside.block f.rows session.sp authority pin ≡ x → (tried_in f.rows session.sp authority x).denied ≡ Some why → IsDenied f act why
 attempt-is f act why session object method args c authority pin j None is h = absurd (nothing h)
 attempt-is f act why session object method args c authority pin j (Some failure) is h =
     inr (inr (inl (record { session = session; object = object; method = method; args = args; called = c; authority = authority; pin = pin; attempts = j; failure = failure; fails = is; why_is = same-why (sym h) })))
@@ -277,10 +290,11 @@ judged-is f act why session object method args c (Refuses status rule) is h = ab
 judged-is f act why session object method args c (Denies reason_why) is h =
     refused-is f act why session object method args c (asked f.config.profile session.sp (uid_of object) (uid_of method) args) refl (ap reason is ∙ h)
 judged-is f act why session object method args c (Attempts block authority pin) is h =
-    let own : block ≡ f.block = ap (block-of f.block) (sym is) ∙ own-block (standing f session) (uid_of object) (uid_of method) (asked f.config.profile session.sp (uid_of object) (uid_of method) args) in
-    attempt-is f act why session object method args c authority pin (is ∙ ap (λ b. Attempts b authority pin) own) (failure_of f.block f.rows session.sp authority pin) refl
+    let own : block ≡ f.beside.block = ap (block-of f.beside.block) (sym is) ∙ own-block (standing f session) (uid_of object) (uid_of method) (asked f.config.profile session.sp (uid_of object) (uid_of method) args) in
+    attempt-is f act why session object method args c authority pin (is ∙ ap (λ b. Attempts b authority pin) own) (failure_of f.beside.block f.rows session.sp authority pin) refl
     (ap (λ b. (tried_in f.rows session.sp authority (failure_of b f.rows session.sp authority pin)).denied) (sym own) ∙ h)
 judged-is f act why session object method args c (Gives results) is h = absurd (nothing h)
+judged-is f act why session object method args c (Draws count results) is h = absurd (nothing h)
 judged-is f act why session object method args c (Makes change) is h = absurd (nothing h)
 judged-is f act why session object method args c Activates is h = absurd (nothing h)
 judged-is f act why session object method args c (Reverts sp) is h = absurd (nothing h)
@@ -309,7 +323,7 @@ session-is f act why com_id frame sent no_manager session named (Err e) is h = a
 -- the session manager
 called-is : (f : Facts) (act : Act) (why : Why) (com_id : ℕ) (frame : Frame) → IsSent f act com_id frame → is_manager frame.session ≡ true → (object method : List ℕ) (args : Trees) (status : List ℕ) → message_in frame.payload ≡ Ok (call object method args status)
     → (p q : Bool) → is_method_of_manager properties (uid_of object) (uid_of method) ≡ p → is_method_of_manager start_session (uid_of object) (uid_of method) ≡ q
-    → (cond p (says Unchanged (properties_message f.config.profile (values_of args))) (cond q (started f com_id (values_of args)) (refuses_item (refusal_of fail) NoMethod))).denied ≡ Some why → IsDenied f act why
+    → (cond p (properties_told f com_id (values_of args)) (cond q (started f com_id (values_of args)) (refuses_item (refusal_of fail) NoMethod))).denied ≡ Some why → IsDenied f act why
 called-is f act why com_id frame sent manager object method args status calls true q is_p is_q h = absurd (nothing h)
 called-is f act why com_id frame sent manager object method args status calls false false is_p is_q h = absurd (nothing h)
 called-is f act why com_id frame sent manager object method args status calls false true is_p is_q h = by_opening (opening_of f.config.profile (values_of args)) refl h
@@ -353,7 +367,7 @@ manager-is f act why com_id frame sent manager (Err e) is h = absurd (nothing h)
 framed-is : (f : Facts) (act : Act) (why : Why) (com_id : ℕ) (frame : Frame) → IsSent f act com_id frame → (framed f com_id frame).denied ≡ Some why → IsDenied f act why
 framed-is f act why com_id frame sent h = by_manager (is_manager frame.session) refl h
   where
-    by_item : is_manager frame.session ≡ false → (session : Begun) → session_named f com_id frame.session ≡ Some session → (b : Bool) → (cond b (broken_off session.sp) (answers com_id frame.session (in_session f session (item_in f.config.profile frame.payload)))).denied ≡ Some why → IsDenied f act why
+    by_item : is_manager frame.session ≡ false → (session : Begun) → session_named f com_id frame.session ≡ Some session → (b : Bool) → (cond b (broken_off BrokenOff session.sp) (answers com_id frame.session (in_session f session (item_in f.config.profile frame.payload)))).denied ≡ Some why → IsDenied f act why
     by_item no_manager session is true g = absurd (nothing g)
     by_item no_manager session is false g = session-is f act why com_id frame sent no_manager session is (item_in f.config.profile frame.payload) refl g
 
@@ -369,6 +383,18 @@ framed-is f act why com_id frame sent h = by_manager (is_manager frame.session) 
     by_manager true is g = by_read is (is_discarded f.config.profile (message_in frame.payload)) g
     by_manager false is g = by_session is (session_named f com_id frame.session) refl g
 
+unframed-none : (f : Facts) (com_id : ℕ) (broken : Option Named) → (unframed f com_id broken).denied ≡ None
+unframed-none f com_id None = refl
+unframed-none f com_id (Some named) = by_id (named.com_id == com_id)
+  where
+    by_session : (x : Option Begun) → (unframed_in x).denied ≡ None
+    by_session None = refl
+    by_session (Some s) = refl
+
+    by_id : (b : Bool) → (cond b (unframed_in (session_named f com_id named.session)) (ignores NoFrame)).denied ≡ None
+    by_id true = by_session (session_named f com_id named.session)
+    by_id false = refl
+
 send-is : (f : Facts) (act : Act) (why : Why) (protocol com_id blocks : ℕ) (dma : Bool) (looked : IsLookedAt f act (Send protocol com_id blocks dma) None) → (send_item f protocol com_id blocks looked.payload).denied ≡ Some why → IsDenied f act why
 send-is f act why protocol com_id blocks dma looked h = by_taken (is_sent f protocol com_id blocks) refl h
   where
@@ -376,11 +402,11 @@ send-is f act why protocol com_id blocks dma looked h = by_taken (is_sent f prot
     by_id taken frame is false same g = absurd (nothing g)
     by_id taken frame is true same g = framed-is f act why com_id frame (record { protocol = protocol; blocks = blocks; dma = dma; looked = looked; taken = taken; framed = is; addressed = same }) g
 
-    by_frame : (is_sent f protocol com_id blocks) ≡ true → (r : Result Frame FrameError) → frame_in looked.payload ≡ r → (sent f com_id r).denied ≡ Some why → IsDenied f act why
-    by_frame taken (Err e) is g = absurd (nothing g)
+    by_frame : (is_sent f protocol com_id blocks) ≡ true → (r : Result Frame FrameError) → frame_in looked.payload ≡ r → (sent_by f com_id (broken_of f.config.profile looked.payload) r).denied ≡ Some why → IsDenied f act why
+    by_frame taken (Err e) is g = absurd (nothing (sym (unframed-none f com_id (broken_of f.config.profile looked.payload)) ∙ g))
     by_frame taken (Ok frame) is g = by_id taken frame is (frame.com_id == com_id) refl g
 
-    by_taken : (b : Bool) → (is_sent f protocol com_id blocks) ≡ b → (cond b (sent f com_id (frame_in looked.payload)) (refuses (unsent (is_some (f.waiting com_id)) protocol com_id blocks))).denied ≡ Some why → IsDenied f act why
+    by_taken : (b : Bool) → (is_sent f protocol com_id blocks) ≡ b → (cond b (sent f com_id looked.payload) (refuses (unsent (is_some (f.waiting com_id)) protocol com_id blocks))).denied ≡ Some why → IsDenied f act why
     by_taken false is g = absurd (nothing g)
     by_taken true is g = by_frame is (frame_in looked.payload) refl g
 
@@ -429,15 +455,20 @@ unqueued-is f act why (ReadDma l n) looked h = moves-is f act why (ReadDma l n) 
 unqueued-is f act why (WriteDma l n) looked h = moves-is f act why (WriteDma l n) None looked Write l n write_dma tt (unqueued_by (Wrote l looked.payload)) (fails not_found None (Some BeyondDrive)) refl refl refl (λ w. refl) h
 unqueued-is f act why (Send p c b d) looked h = by_reset (resets f.rows (Send p c b d)) h
   where
-    by_block : (x : Bool) → (cond x (blocks_sid f looked.payload) (send_item f p c b looked.payload)).denied ≡ Some why → IsDenied f act why
-    by_block true g = absurd (nothing (sym (none-if (has_owner f.rows || is_blocked f.block) (refuses SidKept) (did (BlockedSid (block_asked looked.payload))) refl refl) ∙ g))
-    by_block false g = send-is f act why p c b d looked g
+    by_stack : (x : Bool) → (cond x (stack_sent f c looked.payload) (send_item f p c b looked.payload)).denied ≡ Some why → IsDenied f act why
+    by_stack true g = absurd (nothing (sym (none-if (is_stack_reset c looked.payload) (stack_reset f c) (stack_kept c) refl refl) ∙ g))
+    by_stack false g = send-is f act why p c b d looked g
+
+    by_block : (x : Bool) → (cond x (blocks_sid f looked.payload) (send_other f p c b looked.payload)).denied ≡ Some why → IsDenied f act why
+    by_block true g = absurd (nothing (sym (none-if (has_owner f.rows || is_blocked f.beside.block) (refuses SidKept) (did (BlockedSid (block_asked looked.payload))) refl refl) ∙ g))
+    by_block false g = by_stack (asks_stack f.config.profile p c b) g
 
     by_reset : (x : Bool) → (cond x (did (WasReset programmatic)) (send f p c b looked.payload)).denied ≡ Some why → IsDenied f act why
     by_reset true g = absurd (nothing g)
     by_reset false g = by_block (is_block_sid f.config.profile (Send p c b true)) g
 unqueued-is f act why (Receive p c b d) looked h =
-    absurd (nothing (sym (none-if (is_received f p c b) (received c b (f.waiting c)) (refuses (unreceived p b)) (received-none c b (f.waiting c)) refl) ∙ h))
+    absurd (nothing (sym (none-if (asks_stack f.config.profile p c b) (did (InSession (StackTold c) Silent)) _ refl
+    (none-if (is_received f p c b) (received c b (f.waiting c)) (refuses (unreceived p b)) (received-none c b (f.waiting c)) refl)) ∙ h))
 unqueued-is f act why (ReadQueued l n) looked h = absurd (nothing h)
 unqueued-is f act why (WriteQueued l n) looked h = absurd (nothing h)
 unqueued-is f act why Identify looked h = absurd (nothing h)

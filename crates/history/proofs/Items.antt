@@ -10,6 +10,7 @@ use Rattle.locking.specs.declared.range.Op.{Op}
 use Rattle.locking.specs.declared.range.Op.TheVariants.{Read, Write}
 use Rattle.trusted_cmds.specs.Commands.{is_queued, tag_of, sector_size}
 use Rattle.compacket.specs.declared.session.Session.{Session}
+use Rattle.compacket.specs.declared.session.Named.{Named}
 use Rattle.compacket.specs.declared.error.FrameError.{FrameError}
 use Rattle.compacket.specs.Frames.{Frame, reading as frame_in}
 use Rattle.tcg_tokens.specs.declared.error.TokenError.{TokenError}
@@ -20,16 +21,18 @@ use Rattle.trusted_cmds.specs.declared.command.Command.TheVariants.{ReadQueued, 
 use Rattle.trusted_cmds.specs.declared.command.CommandError.{CommandError}
 use Rattle.locking.specs.declared.ranges.Verdict.{Verdict}
 use Rattle.locking.specs.declared.ranges.Verdict.TheVariants.{Serve, Shadow, Denied}
-use Rattle.sessions.specs.Deeds.{Begun, SessionDeed}
+use Rattle.sessions.specs.Deeds.{Begun, SessionDeed, StackReset, StackTold}
 use Rattle.trusted_cmds.specs.BlockSid.{is_block_sid, block_asked, is_blocked}
 use Rattle.device_data.specs.Discovery.{has_owner}
-use Rattle.history.specs.Events.{Response, HeldCommand, Deed, Nothing, InSession, Wrote, Event, or_else, WasReset, did, ignores, BlockedSid}
-use Rattle.history.specs.Facts.{Facts, is_named, if_named, session_named}
-use Rattle.history.specs.Decisions.{aborted, not_found, fails, refuses, fails_queue, on_drive, verdict_on, queued_by, queued_transfer, admitted, unqueued_by, unqueued_transfer, is_trusted, is_session_com_id, discovery_com_id, received, while_failed, is_busy, completed_by, completed, resets, is_received, unreceived}
-use Rattle.history.specs.Tcg.{answers, to_manager, in_session, is_manager, breaks_off, broken_off, is_discarded, to_session, framed, sent, unqueued, known, commanded, command_read, item_in, blocks_sid, unsent, is_sent}
+use Rattle.history.specs.Events.{Response, Silent, Dropped, HeldCommand, Deed, Nothing, InSession, Wrote, Event, or_else, WasReset, did, ignores, BlockedSid}
+use Rattle.history.specs.Facts.{Facts, is_named, if_named, session_named, is_on_com_id}
+use Rattle.history.specs.Decisions.{aborted, not_found, fails, refuses, fails_queue, on_drive, verdict_on, queued_by, queued_transfer, admitted, unqueued_by, unqueued_transfer, is_trusted, is_session_com_id, discovery_com_id, received, while_failed, is_busy, completed_by, completed, resets, asks_stack, is_received, unreceived}
+use Rattle.history.specs.Tcg.{answers, to_manager, in_session, is_manager, breaks_off, broken_off, is_discarded, to_session, framed, unframed_in, unframed, broken_of, sent_by, stack_reset, stack_kept, stack_sent, unqueued, known, commanded, command_read, item_in, blocks_sid, unsent, is_sent}
 use Rattle.history.specs.History.{Act, Accept, Complete, Reset, SoftwareReset, event_by}
 use Rattle.sp_cells.specs.Resets.{programmatic}
-use Rattle.audit.specs.declared.rules.rule.Rule.TheVariants.{NoCommand, Unreadable, Mixed, BeyondDrive, SidKept, Discarded}
+use Rattle.audit.specs.declared.rules.rule.Rule.TheVariants.{NoCommand, Unreadable, Mixed, BeyondDrive, SidKept, Discarded, BrokenOff, NoSubpacket}
+use Rattle.audit.specs.declared.rules.rule.Rule.{Rule}
+use Rattle.device_data.specs.StackReset.{is_stack_reset}
 
 pub record OfManager (f : Facts) (deed : SessionDeed) : Type 0 where
   pub com_id : ℕ
@@ -43,8 +46,18 @@ pub record OfSession (f : Facts) (deed : SessionDeed) : Type 0 where
   pub read : Result Message TokenError
   pub does : deed ≡ (in_session f session read).deed
 
+-- The stack of a ComID: it is reset, or it is told that nothing is to be told any more.
+abbrev pub stack_deed : Facts → ℕ → Bool → SessionDeed
+stack_deed f com_id true = StackReset com_id (λ sp. is_on_com_id com_id (f.session_on sp))
+stack_deed f com_id false = StackTold com_id
+
+pub record OfStack (f : Facts) (deed : SessionDeed) : Type 0 where
+  pub com_id : ℕ
+  pub is_reset : Bool
+  pub does : deed ≡ stack_deed f com_id is_reset
+
 record Comes (f : Facts) (e : Event) : Type 0 where
-  from : (deed : SessionDeed) (response : Response) → e.deed ≡ InSession deed response → OfManager f deed ⊎ OfSession f deed
+  from : (deed : SessionDeed) (response : Response) → e.deed ≡ InSession deed response → OfManager f deed ⊎ (OfSession f deed ⊎ OfStack f deed)
 
 abbrev is_item : Deed → Bool
 is_item (InSession deed response) = true
@@ -67,11 +80,15 @@ of_manager : (f : Facts) (com_id : ℕ) (session : Session) (read : Result Messa
 of_manager f com_id session read = record { from = λ d r is. inl (record { com_id = com_id; read = read; does = deed-same is }) }
 
 of_session : (f : Facts) (com_id : ℕ) (named : Session) (sp : Sp) (session : Begun) (read : Result Message TokenError) → f.session_on sp ≡ Some session → Comes f (answers com_id named (in_session f session read))
-of_session f com_id named sp session read lives = record { from = λ d r is. inr (record { sp = sp; session = session; lives = lives; read = read; does = deed-same is }) }
+of_session f com_id named sp session read lives = record { from = λ d r is. inr (inl (record { sp = sp; session = session; lives = lives; read = read; does = deed-same is })) }
 
 -- what ends a session without a word does what the item does that ends it
-off_session : (f : Facts) (sp : Sp) (session : Begun) → f.session_on sp ≡ Some session → Comes f (broken_off session.sp)
-off_session f sp session lives = record { from = λ d r is. inr (record { sp = sp; session = session; lives = lives; read = Ok end_session; does = deed-same is }) }
+off_session : (f : Facts) (sp : Sp) (session : Begun) → f.session_on sp ≡ Some session → (rule : Rule) → Comes f (broken_off rule session.sp)
+off_session f sp session lives rule = record { from = λ d r is. inr (inl (record { sp = sp; session = session; lives = lives; read = Ok end_session; does = deed-same is })) }
+
+-- the stack of a ComID
+of_stack : (f : Facts) (com_id : ℕ) (b : Bool) (e : Event) (r : Response) → e.deed ≡ InSession (stack_deed f com_id b) r → Comes f e
+of_stack f com_id b e r does = record { from = λ d r' is. inr (inr (record { com_id = com_id; is_reset = b; does = deed-same (sym does ∙ is) })) }
 
 -- the session that a packet names lives
 if_named-is : (com_id : ℕ) (named : Session) (x : Option Begun) (s : Begun) → if_named com_id named x ≡ Some s → x ≡ Some s
@@ -97,14 +114,22 @@ to_session-comes f com_id named payload None h = no_item refl
 to_session-comes f com_id named payload (Some s) h =
     let x = named-lives f com_id named s h in
     let item = item_in f.config.profile payload in
-    either f (breaks_off f.config.profile item) (broken_off s.sp) (answers com_id named (in_session f s item)) (off_session f x.0 s x.1) (of_session f com_id named x.0 s item x.1)
+    either f (breaks_off f.config.profile item) (broken_off BrokenOff s.sp) (answers com_id named (in_session f s item)) (off_session f x.0 s x.1 BrokenOff) (of_session f com_id named x.0 s item x.1)
 
 framed-comes : (f : Facts) (com_id : ℕ) (frame : Frame) → Comes f (framed f com_id frame)
 framed-comes f com_id frame = either f (is_manager frame.session) _ _ (either f (is_discarded f.config.profile (message_in frame.payload)) (ignores Discarded) _ (no_item refl) (of_manager f com_id frame.session (message_in frame.payload))) (to_session-comes f com_id frame.session frame.payload (session_named f com_id frame.session) refl)
 
-sent-comes : (f : Facts) (com_id : ℕ) (r : Result Frame FrameError) → Comes f (sent f com_id r)
-sent-comes f com_id (Err e) = no_item refl
-sent-comes f com_id (Ok frame) = either f (frame.com_id == com_id) _ _ (framed-comes f com_id frame) (no_item refl)
+unframed-comes : (f : Facts) (com_id : ℕ) (broken : Option Named) → Comes f (unframed f com_id broken)
+unframed-comes f com_id None = no_item refl
+unframed-comes f com_id (Some named) = either f (named.com_id == com_id) _ _ (by_session (session_named f com_id named.session) refl) (no_item refl)
+  where
+    by_session : (s : Option Begun) → session_named f com_id named.session ≡ s → Comes f (unframed_in s)
+    by_session None h = no_item refl
+    by_session (Some s) h = let x = named-lives f com_id named.session s h in off_session f x.0 s x.1 NoSubpacket
+
+sent-comes : (f : Facts) (com_id : ℕ) (broken : Option Named) (r : Result Frame FrameError) → Comes f (sent_by f com_id broken r)
+sent-comes f com_id broken (Err e) = unframed-comes f com_id broken
+sent-comes f com_id broken (Ok frame) = either f (frame.com_id == com_id) _ _ (framed-comes f com_id frame) (no_item refl)
 
 received-comes : (f : Facts) (com_id blocks : ℕ) (w : Option (List ℕ)) → Comes f (received com_id blocks w)
 received-comes f com_id blocks None = no_item refl
@@ -124,9 +149,13 @@ unqueued-comes f payload (WriteDma lba count) = transfer-comes f (Wrote lba payl
 unqueued-comes f payload (Send protocol com_id blocks dma) =
     either f (resets f.rows (Send protocol com_id blocks dma)) (did (WasReset programmatic)) _ (no_item refl)
     (either f (is_block_sid f.config.profile (Send protocol com_id blocks true)) (blocks_sid f payload) _
-    (either f (has_owner f.rows || is_blocked f.block) (refuses SidKept) (did (BlockedSid (block_asked payload))) (no_item refl) (no_item refl))
-    (either f (is_sent f protocol com_id blocks) _ (refuses (unsent (is_some (f.waiting com_id)) protocol com_id blocks)) (sent-comes f com_id (frame_in payload)) (no_item refl)))
-unqueued-comes f payload (Receive protocol com_id blocks dma) = either f (is_received f protocol com_id blocks) _ (refuses (unreceived protocol blocks)) (received-comes f com_id blocks (f.waiting com_id)) (no_item refl)
+    (either f (has_owner f.rows || is_blocked f.beside.block) (refuses SidKept) (did (BlockedSid (block_asked payload))) (no_item refl) (no_item refl))
+    (either f (asks_stack f.config.profile protocol com_id blocks) (stack_sent f com_id payload) _
+    (either f (is_stack_reset com_id payload) (stack_reset f com_id) (stack_kept com_id) (of_stack f com_id true _ (Dropped com_id) refl) (of_stack f com_id false _ Silent refl))
+    (either f (is_sent f protocol com_id blocks) _ (refuses (unsent (is_some (f.waiting com_id)) protocol com_id blocks)) (sent-comes f com_id (broken_of f.config.profile payload) (frame_in payload)) (no_item refl))))
+unqueued-comes f payload (Receive protocol com_id blocks dma) =
+    either f (asks_stack f.config.profile protocol com_id blocks) (did (InSession (StackTold com_id) Silent)) _ (of_stack f com_id false _ Silent refl)
+    (either f (is_received f protocol com_id blocks) _ (refuses (unreceived protocol blocks)) (received-comes f com_id blocks (f.waiting com_id)) (no_item refl))
 unqueued-comes f payload _ = no_item refl
 
 queued_by-comes : (f : Facts) (h : RegH2d) (tag : ℕ) (c : Command) (v : Verdict) → Comes f (queued_by h tag c v)
@@ -172,6 +201,6 @@ event-comes f (Complete tag payload) = completed-comes f tag payload (f.held tag
 event-comes f (Reset kind) = no_item refl
 event-comes f SoftwareReset = no_item refl
 
--- an item's deed comes from the session manager or from a live session
-pub item-from : (f : Facts) (act : Act) (deed : SessionDeed) (response : Response) → (event_by f act).deed ≡ InSession deed response → OfManager f deed ⊎ OfSession f deed
+-- an item's deed comes from the session manager, from a live session, or from the stack of a ComID
+pub item-from : (f : Facts) (act : Act) (deed : SessionDeed) (response : Response) → (event_by f act).deed ≡ InSession deed response → OfManager f deed ⊎ (OfSession f deed ⊎ OfStack f deed)
 item-from f act deed response is = (event-comes f act).from deed response is

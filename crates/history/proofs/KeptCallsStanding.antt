@@ -10,7 +10,11 @@ use Rattle.sp_cells.specs.Flat.{sp_eq}
 use Rattle.ace_eval.specs.Truth.{has}
 use Rattle.transactions.specs.Stored.{Transaction, Part, Stored, part, is_open}
 use Rattle.transactions.specs.Sights.{side_at, side_for, latest_side, look_up, sight_of, latest_look}
-use Rattle.sessions.specs.Live.{Holder, Live, session_at, holder_on}
+use Rattle.basics.specs.declared.profile.Profile.{Profile}
+use Rattle.sessions.specs.declared.beside.Beside.{Beside}
+use Rattle.sessions.specs.Beside.{channel_of, room_of}
+use Rattle.sessions.specs.Live.{Holder, Live, session_at, holder_on, com_id_of, session_room}
+use Rattle.methods.specs.Random.{random_bytes}
 use Rattle.methods.specs.Effects.{held_of, held_in, seen_by, has_transaction}
 use Rattle.history.specs.Opening.{Origin}
 use Rattle.history.specs.Changes.{with_tries}
@@ -18,7 +22,7 @@ use Rattle.methods.specs.Judgement.{Standing}
 use Rattle.methods.specs.Calls.{standing_on}
 use Rattle.sessions.specs.Deeds.{Begun}
 use Rattle.history.specs.Events.{Event, or_else}
-use Rattle.history.specs.Readers.{session_on, authorities, open_on, rows_after, rows_within, is_of, tries, in_force, view, byte_in_force, byte_in_view, sid_block}
+use Rattle.history.specs.Readers.{session_on, authorities, open_on, rows_after, rows_within, is_of, tries, in_force, view, byte_in_force, byte_in_view, beside}
 use Rattle.history.specs.Facts.{facts, standing}
 use Rattle.history.specs.History.{Act, log}
 use Rattle.history.specs.KeptStore.{KeepsStore, ReadsStore}
@@ -162,19 +166,37 @@ latest-seen o acts s session store h = by_sp session.sp (own-pending o acts s se
     by_sp Admin own = latest-own s.admin session.number own
     by_sp Locking own = latest-own s.locking session.number own
 
+-- The room of its responses.
+kept-room : (past : List Event) (session : Begun) (b : Beside) (profile : Profile) (x : Option Holder) → IsKeptAs past x (Some session) → room_of profile (channel_of b (com_id_of (holder_on session.sp x))).limits ≡ room_of profile (channel_of b session.com_id).limits
+kept-room past session b profile None kept = absurd kept
+kept-room past session b profile (Some h) kept =
+    ap (λ c. room_of profile (channel_of b (com_id_of (cond c (Some h) None))).limits) (ap (λ sp. sp_eq sp session.sp) kept.sp ∙ sp-same session.sp)
+    ∙ ap (λ (n : ℕ). room_of profile (channel_of b n).limits) kept.com_id
+
+room-same : (past : List Event) (l : Live) (session : Begun) (profile : Profile) → KeepsSessions l past → session_on past session.sp ≡ Some session → session_room profile l (id_of session) ≡ room_of profile (channel_of l.beside session.com_id).limits
+room-same past l session profile keeps h =
+    kept-room past session l.beside profile (session_at l session.number) (subst (IsKeptAs past (session_at l session.number)) (numbered-is past l session keeps h) (keeps.at session.number))
+
 -- All of it, with the authorities that the past gives.
-pub standing-same : (o : Origin) (acts : List Act) (s : Stored) (l : Live) (session : Begun) (held : List Uid) → KeepsStore s o (log o acts) → KeepsSessions l (log o acts) → session_on (log o acts) session.sp ≡ Some session → l.block ≡ sid_block (log o acts)
-    → with_held (standing_on l.block s (id_of session) held) (authorities (log o acts) session) ≡ standing (facts o (log o acts)) session
-standing-same o acts s l session held store keeps h block =
-    ap (λ (config : Config). record base { profile = config.profile; sectors = config.sectors; sizes = sizes_in config }) store.config
-    ∙ ap (λ rows. record after { rows = rows; byte = base.byte; newest = base.newest; is_open = base.is_open; block = base.block }) (rows-same o acts s l session store keeps h)
-    ∙ ap (λ byte. record after { byte = byte; newest = base.newest; is_open = base.is_open; block = base.block }) (bytes-same o acts s l session store keeps h)
-    ∙ ap (λ newest. record after { newest = newest; is_open = base.is_open; block = base.block }) (latest-seen o acts s session store h ∙ ap (λ look. look session.sp) (rows-same o acts s l session store keeps h))
-    ∙ ap (λ is_open. record after { is_open = is_open; block = base.block }) (inside-same o (log o acts) s session store)
-    ∙ ap (λ x. record after { block = x }) block
+pub standing-same : (o : Origin) (acts : List Act) (s : Stored) (l : Live) (session : Begun) (held : List Uid) → KeepsStore s o (log o acts) → KeepsSessions l (log o acts) → session_on (log o acts) session.sp ≡ Some session → l.beside ≡ beside (log o acts)
+    → with_held (standing_on l.beside (session_room s.config.profile l (id_of session)) s (id_of session) held) (authorities (log o acts) session) ≡ standing (facts o (log o acts)) session
+standing-same o acts s l session held store keeps h same =
+    ap (λ (c : Config). record base { profile = c.profile; sectors = c.sectors; sizes = sizes_in c; room = session_room c.profile l (id_of session); random = random_bytes c.seed l.beside.drawn }) store.config
+    ∙ ap (λ rows. record kept { rows = rows; byte = base.byte; newest = base.newest; is_open = base.is_open }) (rows-same o acts s l session store keeps h)
+    ∙ ap (λ byte. record kept { byte = byte; newest = base.newest; is_open = base.is_open }) (bytes-same o acts s l session store keeps h)
+    ∙ ap (λ newest. record kept { newest = newest; is_open = base.is_open }) (latest-seen o acts s session store h ∙ ap (λ look. look session.sp) (rows-same o acts s l session store keeps h))
+    ∙ ap (λ is_open. record kept { is_open = is_open }) (inside-same o (log o acts) s session store)
+    ∙ ap (λ room. record kept { room = room }) (room-same (log o acts) l session config.profile keeps h)
+    ∙ ap (λ (b : Beside). record after { block = b.block; room = room_of config.profile (channel_of b session.com_id).limits; random = random_bytes config.seed b.drawn }) same
   where
+    config : Config
+    config = o.tables.config
+
     base : Standing
-    base = with_held (standing_on l.block s (id_of session) held) (authorities (log o acts) session)
+    base = with_held (standing_on l.beside (session_room s.config.profile l (id_of session)) s (id_of session) held) (authorities (log o acts) session)
 
     after : Standing
     after = standing (facts o (log o acts)) session
+
+    kept : Standing
+    kept = record after { block = l.beside.block; room = session_room config.profile l (id_of session); random = random_bytes config.seed l.beside.drawn }

@@ -3,10 +3,10 @@ use Rattle.std.proofs.Common.{◌≡◌, true, false, List, [], ◌∷◌, Some,
 use Rattle.sp_cells.specs.declared.names.Sp.{Sp}
 use Rattle.sp_cells.specs.declared.names.Sp.TheVariants.{Admin, Locking}
 use Rattle.sp_cells.specs.Flat.{sp_eq}
-use Rattle.sessions.specs.Live.{Live, session_at, unless_on}
+use Rattle.sessions.specs.Live.{Live, session_at, unless_on, unless_ending}
 use Rattle.sessions.specs.Made.{ended_by, LeavesAll}
 use Rattle.history.specs.Events.{Deed, Nothing, InSession, OfQueue, Wrote, Took, BlockedSid, Chose, WasReset, Event}
-use Rattle.sessions.specs.Deeds.{Unchanged, Started, Tried, Changed, Began, Committed, Aborted, Ended, Activated, Reverted, Erased}
+use Rattle.sessions.specs.Deeds.{Unchanged, Started, Tried, Changed, Began, Committed, Aborted, Ended, Activated, Reverted, Erased, Drew, HostTold, StackReset, StackTold}
 use Rattle.history.specs.Readers.{is_start, living, restores, starts, gains}
 use Rattle.history.specs.KeptSessions.{KeepsSessions, LivesBy, SessionsOpeningLaw, SessionsLaw}
 use Rattle.history.proofs.KeptSessionsNumbers.{none-apart, none-kept}
@@ -71,6 +71,13 @@ sessions_law past e l m k lives = by_deed e.deed refl lives
     by_deed (InSession (Aborted sp) r) is v = spared-kept e past l m (InSession (Aborted sp) r) is (record { turns = λ s. refl; starts_none = λ s. refl; gains_none = λ s. refl; is_no_start = refl }) k v
     by_deed (InSession (Activated pin) r) is v = spared-kept e past l m (InSession (Activated pin) r) is (record { turns = λ s. refl; starts_none = λ s. refl; gains_none = λ s. refl; is_no_start = refl }) k v
     by_deed (InSession (Erased erasure) r) is v = spared-kept e past l m (InSession (Erased erasure) r) is (record { turns = λ s. refl; starts_none = λ s. refl; gains_none = λ s. refl; is_no_start = refl }) k v
+    by_deed (InSession (Drew count) r) is v = spared-kept e past l m (InSession (Drew count) r) is (record { turns = λ s. refl; starts_none = λ s. refl; gains_none = λ s. refl; is_no_start = refl }) k v
+    by_deed (InSession (HostTold com_id limits) r) is v = spared-kept e past l m (InSession (HostTold com_id limits) r) is (record { turns = λ s. refl; starts_none = λ s. refl; gains_none = λ s. refl; is_no_start = refl }) k v
+    by_deed (InSession (StackTold com_id) r) is v = spared-kept e past l m (InSession (StackTold com_id) r) is (record { turns = λ s. refl; starts_none = λ s. refl; gains_none = λ s. refl; is_no_start = refl }) k v
+    by_deed (InSession (StackReset com_id ends) r) is v =
+        left-kept e past ends (unless_ending ends) l m
+        (record { none = refl; some = λ h. refl; turns = λ s. ap (living s) is; starts_none = λ s. ap (starts s) is; gains_none = λ s. ap (gains s) is; is_no_start = ap is_start is })
+        k v
     by_deed Nothing is v = spared-kept e past l m Nothing is (record { turns = λ s. refl; starts_none = λ s. refl; gains_none = λ s. refl; is_no_start = refl }) k v
     by_deed (OfQueue deed) is v = spared-kept e past l m (OfQueue deed) is (record { turns = λ s. refl; starts_none = λ s. refl; gains_none = λ s. refl; is_no_start = refl }) k v
     by_deed (Wrote lba bytes) is v = spared-kept e past l m (Wrote lba bytes) is (record { turns = λ s. refl; starts_none = λ s. refl; gains_none = λ s. refl; is_no_start = refl }) k v

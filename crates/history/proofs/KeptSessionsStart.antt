@@ -13,8 +13,8 @@ use Rattle.sp_cells.specs.ColumnNames.{tries_column}
 use Rattle.sp_cells.specs.Ranges.{number}
 use Rattle.audit.specs.declared.reason.AttemptFailure.{AttemptFailure}
 use Rattle.audit.specs.declared.reason.AttemptFailure.TheVariants.{WrongPin, LockedOut, Disabled, Blocked, Unknown}
-use Rattle.trusted_cmds.specs.declared.block.SidBlock.{SidBlock}
-use Rattle.sessions.specs.Block.{block_after}
+use Rattle.sessions.specs.declared.beside.Beside.{Beside}
+use Rattle.sessions.specs.Made.{beside_after}
 use Rattle.tcg_calls.specs.Statuses.{invalid_parameter, sp_busy, no_sessions_available}
 use Rattle.transactions.specs.Stored.{Stored}
 use Rattle.sessions.specs.declared.opening.Opening.{Opening}
@@ -29,7 +29,7 @@ use Rattle.history.specs.Opening.{Origin}
 use Rattle.shadow_mbr.specs.Erasure.{no_sectors}
 use Rattle.sessions.specs.Deeds.{Begun, erased_by}
 use Rattle.history.specs.Events.{Event}
-use Rattle.history.specs.Readers.{session_on, sid_block}
+use Rattle.history.specs.Readers.{session_on, beside}
 use Rattle.history.specs.Facts.{Facts, facts, numbered, live}
 use Rattle.history.specs.Tcg.{start_verdict, deed_of_start, start_deed, started_by}
 use Rattle.sessions.specs.Made.{with_count, StoresAs, gains_on, LivesAs, Meets}
@@ -115,18 +115,18 @@ lives-facts o past l sp k = lives-listed (session_on past Admin) (session_on pas
 record Alike (l m : Live) : Type 0 where
   lives : (sp : Sp) → lives_on sp l ≡ lives_on sp m
   next : l.next ≡ m.next
-  block : l.block ≡ m.block
+  beside : l.beside ≡ m.beside
 
-alike-facts : (o : Origin) (past : List Event) (l : Live) → KeepsSessions l past → AreNumbered l → l.block ≡ sid_block past → Alike l (live (facts o past))
-alike-facts o past l k are block = record { lives = λ sp. lives-past past l sp k are ∙ sym (lives-facts o past l sp k); next = k.next; block = block }
+alike-facts : (o : Origin) (past : List Event) (l : Live) → KeepsSessions l past → AreNumbered l → l.beside ≡ beside past → Alike l (live (facts o past))
+alike-facts o past l k are beside = record { lives = λ sp. lives-past past l sp k are ∙ sym (lives-facts o past l sp k); next = k.next; beside = beside }
 
 verdict-on : (look : LookUp) (l m : Live) (opening : Opening) → Alike l m → (named : Option Sp) → opening_verdict_on look l opening named ≡ opening_verdict_on look m opening named
 verdict-on look l m opening alike None = refl
 verdict-on look l m opening alike (Some sp) =
-    let attempts : SidBlock → StartVerdict = λ block. Attempted sp (failure_of block look sp opening.authority opening.proof) in
-    ap (λ b. cond (not (is_in_use look sp)) (Refused invalid_parameter NotInUse) (cond b (Refused sp_busy SpBusy) (cond (is_full l) (Refused no_sessions_available NoNumber) (attempts l.block)))) (alike.lives sp)
-    ∙ ap (λ n. cond (not (is_in_use look sp)) (Refused invalid_parameter NotInUse) (cond (lives_on sp m) (Refused sp_busy SpBusy) (cond (nat_lt 0xffffffff n) (Refused no_sessions_available NoNumber) (attempts l.block)))) alike.next
-    ∙ ap (λ b. cond (not (is_in_use look sp)) (Refused invalid_parameter NotInUse) (cond (lives_on sp m) (Refused sp_busy SpBusy) (cond (is_full m) (Refused no_sessions_available NoNumber) (attempts b)))) alike.block
+    let attempts : Beside → StartVerdict = λ beside. Attempted sp (failure_of beside.block look sp opening.authority opening.proof) in
+    ap (λ b. cond (not (is_in_use look sp)) (Refused invalid_parameter NotInUse) (cond b (Refused sp_busy SpBusy) (cond (is_full l) (Refused no_sessions_available NoNumber) (attempts l.beside)))) (alike.lives sp)
+    ∙ ap (λ n. cond (not (is_in_use look sp)) (Refused invalid_parameter NotInUse) (cond (lives_on sp m) (Refused sp_busy SpBusy) (cond (nat_lt 0xffffffff n) (Refused no_sessions_available NoNumber) (attempts l.beside)))) alike.next
+    ∙ ap (λ b. cond (not (is_in_use look sp)) (Refused invalid_parameter NotInUse) (cond (lives_on sp m) (Refused sp_busy SpBusy) (cond (is_full m) (Refused no_sessions_available NoNumber) (attempts b)))) alike.beside
 
 verdict-same : (look : LookUp) (l m : Live) → Alike l m → (x : Option Opening) → verdict look l x ≡ verdict look m x
 verdict-same look l m alike None = refl
@@ -142,7 +142,7 @@ by-tests false false false s sp g f l is h = let same : s ≡ sp = cc in ap (λ 
 
 free-by : (look : LookUp) (l : Live) (opening : Opening) (sp : Sp) (f : Option AttemptFailure) (named : Option Sp) → opening_verdict_on look l opening named ≡ Attempted sp f → lives_on sp l ≡ false
 free-by look l opening sp f None h = cc
-free-by look l opening sp f (Some s) h = by-tests (not (is_in_use look s)) (lives_on s l) (is_full l) s sp (failure_of l.block look s opening.authority opening.proof) f l refl h
+free-by look l opening sp f (Some s) h = by-tests (not (is_in_use look s)) (lives_on s l) (is_full l) s sp (failure_of l.beside.block look s opening.authority opening.proof) f l refl h
 
 -- The store.
 
@@ -214,19 +214,19 @@ erases-with f com_id (Some opening) = erases-by f com_id opening (start_verdict 
 
 -- Nor does it free SID.
 
-block-by : (f : Facts) (com_id : ℕ) (block : SidBlock) (opening : Opening) (v : StartVerdict) → block ≡ block_after (deed_of_start f com_id opening v) block
-block-by f com_id block opening (Refused status rule) = refl
-block-by f com_id block opening (Attempted sp None) = refl
-block-by f com_id block opening (Attempted sp (Some failure)) = refl
+beside-by : (f : Facts) (com_id : ℕ) (b : Beside) (opening : Opening) (v : StartVerdict) → b ≡ beside_after (deed_of_start f com_id opening v) b
+beside-by f com_id b opening (Refused status rule) = refl
+beside-by f com_id b opening (Attempted sp None) = refl
+beside-by f com_id b opening (Attempted sp (Some failure)) = refl
 
-block-with : (f : Facts) (com_id : ℕ) (block : SidBlock) (x : Option Opening) → block ≡ block_after (start_deed f com_id x) block
-block-with f com_id block None = refl
-block-with f com_id block (Some opening) = block-by f com_id block opening (start_verdict f (Some opening))
+beside-with : (f : Facts) (com_id : ℕ) (b : Beside) (x : Option Opening) → b ≡ beside_after (start_deed f com_id x) b
+beside-with f com_id b None = refl
+beside-with f com_id b (Some opening) = beside-by f com_id b opening (start_verdict f (Some opening))
 
 -- What an opening comes to, whatever asks for it.
 
 opened-as : (o : Origin) (past : List Event) (s : Stored) (l m : Live) (com_id host : ℕ) (x : Option Opening) → KeepsStore s o past → KeepsSessions l past → AreNumbered l
-    → l.block ≡ sid_block past → m.block ≡ l.block
+    → l.beside ≡ beside past → m.beside ≡ l.beside
     → m.next ≡ next_by (verdict (rows_in_force s) l x) l.next
     → ((n : ℕ) → session_at m n ≡ begun_with (rows_in_force s) com_id x (verdict (rows_in_force s) l x) (l.next == n) (session_at l n))
     → Meets (started_by (facts o past) com_id host x) (reply_to host l.next (verdict (rows_in_force s) l x)) (denied_with x (verdict (rows_in_force s) l x)) (rule_of (verdict (rows_in_force s) l x)) no_sectors s (stored_with x (verdict (rows_in_force s) l x) s) l m
@@ -241,7 +241,7 @@ opened-as o past s l m com_id host x store k are is stays after points =
       erases = erases-with f com_id x;
       store = store-with f com_id s l rows x verdicts;
       sessions = lives-with f com_id (rows_in_force s) l m rows k.next x verdicts after points;
-      block = stays ∙ block-with f com_id l.block x;
+      beside = stays ∙ beside-with f com_id l.beside x;
     }
 
 pub start_law : StartLaw

@@ -29,12 +29,12 @@ use Rattle.transactions.specs.Stored.{Transaction, Part, Stored, part, at_part, 
 use Rattle.transactions.specs.Sights.{activated_with, with_pin}
 use Rattle.sessions.specs.Answers.{rows_in_force, up}
 use Rattle.shadow_mbr.specs.declared.erasure.Erasure.{Erasure}
-use Rattle.sessions.specs.Deeds.{Setting, cells_set, bytes_set, Sets, Restores, Resets, Begun, Attempt, Unchanged, Started, Tried, Changed, Began, Committed, Aborted, Ended, Activated, Reverted, Erased}
-use Rattle.sessions.specs.Made.{part_with, StoresChange, with_count, CanSet}
+use Rattle.sessions.specs.Deeds.{Setting, cells_set, bytes_set, Sets, Restores, Resets, Begun, Attempt, Unchanged, Started, Tried, Changed, Began, Committed, Aborted, Ended, Activated, Reverted, Erased, Drew, HostTold, StackReset, StackTold}
+use Rattle.sessions.specs.Made.{part_with, StoresChange, closed_if, closed_where, with_count, CanSet}
 use Rattle.history.specs.Opening.{Origin, factory_origin}
 use Rattle.history.specs.Changes.{byte_in, reset_rows}
 use Rattle.history.specs.Events.{Response, Deed, Nothing, InSession, OfQueue, Wrote, Took, BlockedSid, Chose, WasReset, Event}
-use Rattle.history.specs.Readers.{turns, brought, changes, factory_rows, open_on, rows_after, tries, one_more, same_row}
+use Rattle.history.specs.Readers.{begins, turns, changes_on, brought, changes, factory_rows, open_on, rows_after, tries, one_more, same_row}
 use Rattle.history.specs.KeptStore.{HasKnownRows, KeepsPart, KeepsBytes, KeepsStore, StoresBy, StoreLaw}
 use Rattle.history.proofs.Steps.{rows-by, turned}
 use Rattle.history.proofs.Openings.{factory_law}
@@ -218,6 +218,56 @@ closed-kept s o e past Locking h turn bring same apart there =
     one-part s o e past Locking part_close h (close-part s.locking o e past Locking (h.parts Locking) (turned Locking e past None turn) (rows-by o e past Locking [] bring) same)
     (shut-bytes s.locking (part_close s.locking) o e past h.bytes (λ place. ap (λ cs. byte_in (cs ++ changes past Locking) place) bring) refl refl) apart there
 
+-- the reset of a ComID's stack
+ended-part : (p : Part) (o : Origin) (e : Event) (past : List Event) (sp : Sp) (b : Bool) → turns sp e.deed ≡ cond b (Some None) None → begins sp e.deed ≡ false → changes_on sp e.deed ≡ None → brought past sp e.deed ≡ [] → SameTries e past sp
+    → KeepsPart p o past sp → KeepsPart (cond b (part_close p) p) o (e ∷ past) sp
+ended-part p o e past sp true turn start change bring same h = close-part p o e past sp h (turned sp e past None turn) (rows-by o e past sp [] bring) same
+ended-part p o e past sp false turn start change bring same h = spared-part p o e past sp h (record { turn = turn; start = start; change = change; bring = bring }) same
+
+ended-bytes : (p : Part) (o : Origin) (e : Event) (past : List Event) (b : Bool) → turns Locking e.deed ≡ cond b (Some None) None → begins Locking e.deed ≡ false → changes_on Locking e.deed ≡ None → brought past Locking e.deed ≡ []
+    → KeepsBytes p o past → KeepsBytes (cond b (part_close p) p) o (e ∷ past)
+ended-bytes p o e past true turn start change bring h = shut-bytes p (part_close p) o e past h (λ place. ap (λ cs. byte_in (cs ++ changes past Locking) place) bring) refl refl
+ended-bytes p o e past false turn start change bring h = spared-bytes p p o e past h (record { turn = turn; start = start; change = change; bring = bring }) refl refl
+
+admin-ended : (a b : Bool) (s : Stored) → (closed_if b Locking (closed_if a Admin s)).admin ≡ cond a (part_close s.admin) s.admin
+admin-ended true true s = refl
+admin-ended true false s = refl
+admin-ended false true s = refl
+admin-ended false false s = refl
+
+locking-ended : (a b : Bool) (s : Stored) → (closed_if b Locking (closed_if a Admin s)).locking ≡ cond b (part_close s.locking) s.locking
+locking-ended true true s = refl
+locking-ended true false s = refl
+locking-ended false true s = refl
+locking-ended false false s = refl
+
+config-ended : (a b : Bool) (s : Stored) → (closed_if b Locking (closed_if a Admin s)).config ≡ s.config
+config-ended true true s = refl
+config-ended true false s = refl
+config-ended false true s = refl
+config-ended false false s = refl
+
+stack-kept : (s : Stored) (o : Origin) (past : List Event) (x : Option ℕ) (w : Option Why × Option Rule) (com_id : ℕ) (ends : Sp → Bool) (r : Response) → KeepsStore s o past → KeepsStore (closed_where ends s) o (doing x w (InSession (StackReset com_id ends) r) ∷ past)
+stack-kept s o past x w com_id ends r h = record {
+  config = config-ended (ends Admin) (ends Locking) s ∙ h.config;
+  known = h.known;
+  parts = parts;
+  bytes =
+      subst (λ (p : Part). KeepsBytes p o (e ∷ past)) (sym (locking-ended (ends Admin) (ends Locking) s))
+      (ended-bytes s.locking o e past (ends Locking) refl refl refl refl h.bytes);
+}
+  where
+    e : Event
+    e = doing x w (InSession (StackReset com_id ends) r)
+
+    parts : (sp : Sp) → KeepsPart (part (closed_where ends s) sp) o (e ∷ past) sp
+    parts Admin =
+        subst (λ (p : Part). KeepsPart p o (e ∷ past) Admin) (sym (admin-ended (ends Admin) (ends Locking) s))
+        (ended-part s.admin o e past Admin (ends Admin) refl refl refl refl (λ u. refl) (h.parts Admin))
+    parts Locking =
+        subst (λ (p : Part). KeepsPart p o (e ∷ past) Locking) (sym (locking-ended (ends Admin) (ends Locking) s))
+        (ended-part s.locking o e past Locking (ends Locking) refl refl refl refl (λ u. refl) (h.parts Locking))
+
 -- Activate
 pin-part : (s : Stored) (o : Origin) (past : List Event) (x : Option ℕ) (w : Option Why × Option Rule) (pin : Option Cell) (r : Response) → KeepsStore s o past → KeepsPart (with_pin pin s.locking) o (doing x w (InSession (Activated pin) r) ∷ past) Locking
 pin-part s o past x w None r h =
@@ -330,6 +380,10 @@ deed-kept s t o past x w (InSession (Ended Locking) r) h by = keep-as _ t o _ by
 deed-kept s t o past x w (InSession (Activated pin) r) h by = keep-as _ t o _ by (activated-kept s o past x w pin r h)
 deed-kept s t o past x w (InSession (Reverted sp erasure) r) h by = keep-as _ t o _ by (reverted-kept s o past x w sp erasure r h)
 deed-kept s t o past x w (InSession (Erased erasure) r) h by = keep-as s t o _ by (left s o (doing x w (InSession (Erased erasure) r)) past h (λ sp. record { turn = refl; start = refl; change = refl; bring = refl }) (λ sp u. refl))
+deed-kept s t o past x w (InSession (Drew count) r) h by = keep-as s t o _ by (left s o (doing x w (InSession (Drew count) r)) past h (λ sp. record { turn = refl; start = refl; change = refl; bring = refl }) (λ sp u. refl))
+deed-kept s t o past x w (InSession (HostTold com_id limits) r) h by = keep-as s t o _ by (left s o (doing x w (InSession (HostTold com_id limits) r)) past h (λ sp. record { turn = refl; start = refl; change = refl; bring = refl }) (λ sp u. refl))
+deed-kept s t o past x w (InSession (StackTold com_id) r) h by = keep-as s t o _ by (left s o (doing x w (InSession (StackTold com_id) r)) past h (λ sp. record { turn = refl; start = refl; change = refl; bring = refl }) (λ sp u. refl))
+deed-kept s t o past x w (InSession (StackReset com_id ends) r) h by = keep-as _ t o _ by (stack-kept s o past x w com_id ends r h)
 deed-kept s t o past x w (WasReset kind) h by = keep-as _ t o _ by (reset-kept s o past x w kind h)
 
 pub store_law : StoreLaw

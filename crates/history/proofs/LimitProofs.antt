@@ -28,7 +28,7 @@ use Rattle.history.specs.Facts.{live, has_open, Facts}
 use Rattle.history.specs.Tcg.{start_verdict, deed_of_start, start_deed, started, is_method_of_manager, to_manager, judgement_on, begins_on, ends_on, in_session}
 use Rattle.methods.specs.Calls.{outcome_of}
 use Rattle.methods.specs.Said.{refusal_of}
-use Rattle.history.proofs.Items.{item-from}
+use Rattle.history.proofs.Items.{item-from, stack_deed}
 use Rattle.sp_cells.specs.Ranges.{number}
 use Rattle.audit.specs.declared.reason.AttemptFailure.TheVariants.{WrongPin, LockedOut, Disabled, Blocked, Unknown}
 use Rattle.history.specs.TriesLaw.{is_below_limit, LimitLaw}
@@ -51,19 +51,19 @@ failed-below block look sp authority proof h =
     (is_used_up (number look sp row try_limit_column) (number look sp row tries_column)) (is_pin proof (look sp row pin_column)) h
 
 -- a StartSession that fails by its attempt
-attempted-by : (look : LookUp) (l : Live) (opening : Opening) (sp s : Sp) (g f : Option AttemptFailure) (a b c : Bool) → g ≡ failure_of l.block look s opening.authority opening.proof
-    → cond (not a) (Refused 0x0c NotInUse) (cond b (Refused 3 SpBusy) (cond c (Refused 7 NoNumber) (Attempted s g))) ≡ Attempted sp f → failure_of l.block look sp opening.authority opening.proof ≡ f
+attempted-by : (look : LookUp) (l : Live) (opening : Opening) (sp s : Sp) (g f : Option AttemptFailure) (a b c : Bool) → g ≡ failure_of l.beside.block look s opening.authority opening.proof
+    → cond (not a) (Refused 0x0c NotInUse) (cond b (Refused 3 SpBusy) (cond c (Refused 7 NoNumber) (Attempted s g))) ≡ Attempted sp f → failure_of l.beside.block look sp opening.authority opening.proof ≡ f
 attempted-by look l opening sp s g f false b c is h = cc
 attempted-by look l opening sp s g f true true c is h = cc
 attempted-by look l opening sp s g f true false true is h = cc
 attempted-by look l opening sp s g f true false false is h =
     let same : s ≡ sp = cc in
     let other : g ≡ f = cc in
-    ap (λ x. failure_of l.block look x opening.authority opening.proof) (sym same) ∙ sym is ∙ other
+    ap (λ x. failure_of l.beside.block look x opening.authority opening.proof) (sym same) ∙ sym is ∙ other
 
-attempted : (look : LookUp) (l : Live) (opening : Opening) (sp : Sp) (f : Option AttemptFailure) (named : Option Sp) → opening_verdict_on look l opening named ≡ Attempted sp f → failure_of l.block look sp opening.authority opening.proof ≡ f
+attempted : (look : LookUp) (l : Live) (opening : Opening) (sp : Sp) (f : Option AttemptFailure) (named : Option Sp) → opening_verdict_on look l opening named ≡ Attempted sp f → failure_of l.beside.block look sp opening.authority opening.proof ≡ f
 attempted look l opening sp f None h = cc
-attempted look l opening sp f (Some s) h = attempted-by look l opening sp s (failure_of l.block look s opening.authority opening.proof) f (is_in_use look s) (lives_on s l) (is_full l) refl h
+attempted look l opening sp f (Some s) h = attempted-by look l opening sp s (failure_of l.beside.block look s opening.authority opening.proof) f (is_in_use look s) (lives_on s l) (is_full l) refl h
 
 -- each deed
 abbrev Below : Facts → SessionDeed → Type 0
@@ -73,7 +73,7 @@ Below f _ = Unit {0}
 start-below : (f : Facts) (com_id : ℕ) (opening : Opening) (v : StartVerdict) → start_verdict f (Some opening) ≡ v → Below f (deed_of_start f com_id opening v)
 start-below f com_id opening (Refused status rule) is = tt
 start-below f com_id opening (Attempted sp None) is = tt
-start-below f com_id opening (Attempted sp (Some failure)) is = λ h. failed-below f.block f.rows sp opening.authority opening.proof (attempted f.rows (live f) opening sp (Some failure) (sp_named opening.spid) is ∙ h)
+start-below f com_id opening (Attempted sp (Some failure)) is = λ h. failed-below f.beside.block f.rows sp opening.authority opening.proof (attempted f.rows (live f) opening sp (Some failure) (sp_named opening.spid) is ∙ h)
 
 started-below : (f : Facts) (com_id : ℕ) (x : Option Opening) → Below f (start_deed f com_id x)
 started-below f com_id None = tt
@@ -83,9 +83,13 @@ either-below : (f : Facts) (b : Bool) (x y : Outcome) → Below f x.deed → Bel
 either-below f true x y h g = h
 either-below f false x y h g = g
 
+told-below : (f : Facts) (com_id : ℕ) (x : Option HostLimits) → Below f (told_deed com_id x)
+told-below f com_id None = tt
+told-below f com_id (Some limits) = tt
+
 manager-below : (f : Facts) (com_id : ℕ) (read : Result Message TokenError) → Below f (to_manager f com_id read).deed
 manager-below f com_id (Ok (call object method args status)) =
-    either-below f (is_method_of_manager properties (uid_of object) (uid_of method)) (says Unchanged (properties_message f.config.profile (values_of args))) _ tt
+    either-below f (is_method_of_manager properties (uid_of object) (uid_of method)) (properties_told f com_id (values_of args)) _ (told-below f com_id (host_told f.config.profile (channel_of f.beside com_id).limits (values_of args)))
     (either-below f (is_method_of_manager start_session (uid_of object) (uid_of method)) (started f com_id (values_of args)) (refuses_item (refusal_of fail) NoMethod) (started-below f com_id (opening_of f.config.profile (values_of args))) tt)
 manager-below f com_id (Ok (reply results status)) = tt
 manager-below f com_id (Ok (begin n)) = tt
@@ -97,6 +101,7 @@ judged-below : (f : Facts) (sp : Sp) (j : Judgement) → Below f (outcome_of f.r
 judged-below f sp (Denies why) = tt
 judged-below f sp (Refuses status rule) = tt
 judged-below f sp (Gives results) = tt
+judged-below f sp (Draws count results) = tt
 judged-below f sp (Makes set) = tt
 judged-below f sp (Attempts block authority pin) = λ h. failed-below block f.rows sp authority pin h
 judged-below f sp Activates = by_state (is_in_use f.rows Locking)
@@ -125,10 +130,15 @@ session-below f s (Ok end_session) = tt
 session-below f s (Ok (reply results status)) = tt
 session-below f s (Err e) = tt
 
+stack-below : (f : Facts) (com_id : ℕ) (b : Bool) → Below f (stack_deed f com_id b)
+stack-below f com_id true = tt
+stack-below f com_id false = tt
+
 pub limit_law : LimitLaw
 limit_law f act attempt response is = elim (item-from f act (Tried attempt) response is) [
   | inl m ↦ below m.does (manager-below f m.com_id m.read)
-  | inr s ↦ below s.does (session-below f s.session s.read)
+  | inr (inl s) ↦ below s.does (session-below f s.session s.read)
+  | inr (inr t) ↦ below t.does (stack-below f t.com_id t.is_reset)
 ]
   where
     below : {x y : SessionDeed} → x ≡ y → Below f y → Below f x

@@ -84,6 +84,7 @@ granted-row s object method GenKey h = first-row s object method (None ∷ []) N
 granted-row s object method (RevertSp keep) h = first-row s object method (None ∷ []) None [] refl h
 granted-row s object method (Next after count) h = first-row s object method (None ∷ []) None [] refl h
 granted-row s object method (GetAcl about what) h = first-row s object method (None ∷ []) None [] refl h
+granted-row s object method (Random count) h = first-row s object method (None ∷ []) None [] refl h
 granted-row s object method Other h = first-row s object method (None ∷ []) None [] refl h
 
 -- what is looked at
@@ -122,14 +123,27 @@ no-block profile p c k x y h = by (p == 1) refl h
     by true is g = ap (λ n. is_block_sid profile (Send n c k true)) (eqb-true p 1 is)
     by false is g = cc
 
+-- nor does it ask the stack of a ComID
+no-stack : (profile : Profile) (p c k : ℕ) (x y : Bool) → (is_trusted p k && x && y) ≡ true → asks_stack profile p c k ≡ false
+no-stack profile p c k x y h = by (p == 1) refl h
+  where
+    second-false : (a : Bool) → (a && false) ≡ false
+    second-false true = refl
+    second-false false = refl
+
+    by : (b : Bool) → (p == 1) ≡ b → ((b && nat_lt 0 k) && x && y) ≡ true → asks_stack profile p c k ≡ false
+    by true is g = ap (λ n. asks_stack profile n c k) (eqb-true p 1 is) ∙ second-false (has_opal profile)
+    by false is g = cc
+
 -- a frame that is taken
 pub sent_law : (f : Facts) (act : Act) (com_id : ℕ) (frame : Frame) → IsSent f act com_id frame → event_by f act ≡ framed f com_id frame
 sent_law f act com_id frame c =
     looked_law tcg f act (Send c.protocol com_id c.blocks c.dma) None c.looked
     ∙ ap (λ b. cond b (did (WasReset programmatic)) (send f c.protocol com_id c.blocks c.looked.payload)) (no-reset f.rows c.protocol com_id c.blocks c.dma (is_session_com_id com_id) (is_free_for f com_id c.blocks) c.taken)
-    ∙ ap (λ b. cond b (blocks_sid f c.looked.payload) (send_item f c.protocol com_id c.blocks c.looked.payload)) (no-block f.config.profile c.protocol com_id c.blocks (is_session_com_id com_id) (is_free_for f com_id c.blocks) c.taken)
-    ∙ ap (λ b. cond b (sent f com_id (frame_in c.looked.payload)) (refuses (unsent (is_some (f.waiting com_id)) c.protocol com_id c.blocks))) c.taken
-    ∙ ap (sent f com_id) c.framed
+    ∙ ap (λ b. cond b (blocks_sid f c.looked.payload) (send_other f c.protocol com_id c.blocks c.looked.payload)) (no-block f.config.profile c.protocol com_id c.blocks (is_session_com_id com_id) (is_free_for f com_id c.blocks) c.taken)
+    ∙ ap (λ b. cond b (stack_sent f com_id c.looked.payload) (send_item f c.protocol com_id c.blocks c.looked.payload)) (no-stack f.config.profile c.protocol com_id c.blocks (is_session_com_id com_id) (is_free_for f com_id c.blocks) c.taken)
+    ∙ ap (λ b. cond b (sent f com_id c.looked.payload) (refuses (unsent (is_some (f.waiting com_id)) c.protocol com_id c.blocks))) c.taken
+    ∙ ap (sent_by f com_id (broken_of f.config.profile c.looked.payload)) c.framed
     ∙ ap (λ b. cond b (framed f com_id frame) (ignores NoFrame)) c.addressed
 
 pub call_law : CallLaw
@@ -184,6 +198,7 @@ effect-reason : (f : Facts) (sp : Sp) (j : Judgement) → takes_effect j ≡ tru
 effect-reason f sp (Denies why) h = absurd (clash h)
 effect-reason f sp (Refuses status rule) h = absurd (clash h)
 effect-reason f sp (Gives results) h = refl
+effect-reason f sp (Draws count results) h = refl
 effect-reason f sp (Makes change) h = refl
 effect-reason f sp (Attempts block authority pin) h = tried-reason f sp authority (failure_of block f.rows sp authority pin)
 effect-reason f sp Activates h = refl

@@ -201,7 +201,7 @@ fresh_law o h = record {
     view_bytes = λ number place. refl;
     transactions = λ sp. refl;
   };
-  sessions = record { sessions = λ sp. refl; authorities = λ sp session is a. absurd (nobody is); next = refl; block = refl };
+  sessions = record { sessions = λ sp. refl; authorities = λ sp session is a. absurd (nobody is); next = refl; beside = refl };
   queue = record { held = λ tag. refl; failure = refl; waiting = λ com_id. refl; sectors = λ place. refl; settings = refl };
 }
   where

@@ -20,7 +20,7 @@ use Rattle.sp_tables.specs.Looks.{RowLook, put_in, puts_in}
 use Rattle.sp_cells.specs.declared.names.TheConstants.{RANGES}
 use Rattle.sp_tables.specs.AtReset.{has_kind}
 use Rattle.transactions.specs.Resets.{is_range, locks_seen}
-use Rattle.sessions.specs.Deeds.{cells_set, bytes_set, Change, Sets, Restores, Resets, Begun, SessionDeed, Unchanged, Started, Tried, Changed, Began, Committed, Aborted, Ended, Activated, Reverted, Erased}
+use Rattle.sessions.specs.Deeds.{cells_set, bytes_set, Change, Sets, Restores, Resets, Begun, SessionDeed, Unchanged, Started, Tried, Changed, Began, Committed, Aborted, Ended, Activated, Reverted, Erased, Drew, HostTold, StackReset, StackTold}
 use Rattle.history.specs.Changes.{reset_rows, apply, apply_all}
 use Rattle.sessions.specs.Starts.{is_in_use}
 use Rattle.history.specs.Events.{Response, Deed, Nothing, InSession, OfQueue, Wrote, Took, BlockedSid, Chose, WasReset, Event}
@@ -66,6 +66,14 @@ began-is sp (InSession (Changed s c) r) n h = cc
 began-is sp (InSession (Activated pin) r) n h = cc
 began-is sp (InSession (Reverted s w) r) n h = cc
 began-is sp (InSession (Erased w) r) n h = cc
+began-is sp (InSession (Drew count) r) n h = cc
+began-is sp (InSession (HostTold com_id limits) r) n h = cc
+began-is sp (InSession (StackTold com_id) r) n h = cc
+began-is sp (InSession (StackReset com_id ends) r) n h = by_sp (ends sp) h
+  where
+    by_sp : (b : Bool) → cond b closed None ≡ Some (Some n) → (r' : Response) × (InSession (StackReset com_id ends) r ≡ InSession (Began sp n) r')
+    by_sp true g = cc
+    by_sp false g = cc
 began-is sp Nothing n h = cc
 began-is sp (OfQueue d) n h = cc
 began-is sp (Wrote lba bytes) n h = cc
@@ -103,6 +111,14 @@ start-is sp (InSession (Committed s) r) x h g = cc
 start-is sp (InSession (Aborted s) r) x h g = cc
 start-is sp (InSession (Activated pin) r) x h g = cc
 start-is sp (InSession (Erased w) r) x h g = cc
+start-is sp (InSession (Drew count) r) x h g = cc
+start-is sp (InSession (HostTold com_id limits) r) x h g = cc
+start-is sp (InSession (StackTold com_id) r) x h g = cc
+start-is sp (InSession (StackReset com_id ends) r) x h g = by_sp (ends sp) h g
+  where
+    by_sp : (b : Bool) → cond b gone None ≡ Some x → cond b closed None ≡ None → StartedOn sp (InSession (StackReset com_id ends) r)
+    by_sp true k l = cc
+    by_sp false k l = cc
 start-is sp Nothing x h g = cc
 start-is sp (OfQueue d) x h g = cc
 start-is sp (Wrote lba bytes) x h g = cc
@@ -136,6 +152,14 @@ begun-is sp (InSession (Committed t) r) s h = cc
 begun-is sp (InSession (Aborted t) r) s h = cc
 begun-is sp (InSession (Activated pin) r) s h = cc
 begun-is sp (InSession (Erased w) r) s h = cc
+begun-is sp (InSession (Drew count) r) s h = cc
+begun-is sp (InSession (HostTold com_id limits) r) s h = cc
+begun-is sp (InSession (StackTold com_id) r) s h = cc
+begun-is sp (InSession (StackReset com_id ends) r) s h = by_sp (ends sp) h
+  where
+    by_sp : (b : Bool) → cond b gone None ≡ Some (Some s) → StartedOn sp (InSession (StackReset com_id ends) r)
+    by_sp true k = cc
+    by_sp false k = cc
 begun-is sp Nothing s h = cc
 begun-is sp (OfQueue d) s h = cc
 begun-is sp (Wrote lba bytes) s h = cc
@@ -182,6 +206,10 @@ changed-is sp (InSession (Ended s) r) c h = cc
 changed-is sp (InSession (Activated pin) r) c h = cc
 changed-is sp (InSession (Reverted s w) r) c h = cc
 changed-is sp (InSession (Erased w) r) c h = cc
+changed-is sp (InSession (Drew count) r) c h = cc
+changed-is sp (InSession (HostTold com_id limits) r) c h = cc
+changed-is sp (InSession (StackTold com_id) r) c h = cc
+changed-is sp (InSession (StackReset com_id ends) r) c h = cc
 changed-is sp Nothing c h = cc
 changed-is sp (OfQueue d) c h = cc
 changed-is sp (Wrote lba bytes) c h = cc
@@ -327,6 +355,10 @@ brought-spare o es (InSession (Began s n) r) can own h = refl
 brought-spare o es (InSession (Aborted s) r) can own h = refl
 brought-spare o es (InSession (Ended s) r) can own h = refl
 brought-spare o es (InSession (Erased w) r) can own h = refl
+brought-spare o es (InSession (Drew count) r) can own h = refl
+brought-spare o es (InSession (HostTold com_id limits) r) can own h = refl
+brought-spare o es (InSession (StackTold com_id) r) can own h = refl
+brought-spare o es (InSession (StackReset com_id ends) r) can own h = refl
 brought-spare o es (InSession (Activated pin) r) can own h = cc
 brought-spare o es (InSession (Reverted s w) r) can own h = cc
 brought-spare o es Nothing can own h = refl
@@ -351,6 +383,10 @@ activation-is (InSession (Committed s) r) h = cc
 activation-is (InSession (Aborted s) r) h = cc
 activation-is (InSession (Ended s) r) h = cc
 activation-is (InSession (Erased w) r) h = cc
+activation-is (InSession (Drew count) r) h = cc
+activation-is (InSession (HostTold com_id limits) r) h = cc
+activation-is (InSession (StackTold com_id) r) h = cc
+activation-is (InSession (StackReset com_id ends) r) h = cc
 activation-is Nothing h = cc
 activation-is (OfQueue d) h = cc
 activation-is (Wrote lba bytes) h = cc

@@ -23,20 +23,30 @@ either false x y h g = g
 
 to_session-quiet : (f : Facts) (com_id : ℕ) (named : Session) (payload : List ℕ) (x : Option Begun) → is_quiet (to_session f com_id named payload x).deed ≡ true
 to_session-quiet f com_id named payload None = refl
-to_session-quiet f com_id named payload (Some s) = either (breaks_off f.config.profile (item_in f.config.profile payload)) (broken_off s.sp) (answers com_id named (in_session f s (item_in f.config.profile payload))) refl refl
+to_session-quiet f com_id named payload (Some s) = either (breaks_off f.config.profile (item_in f.config.profile payload)) (broken_off BrokenOff s.sp) (answers com_id named (in_session f s (item_in f.config.profile payload))) refl refl
 
-sent-quiet : (f : Facts) (com_id : ℕ) (r : Result Frame FrameError) → is_quiet (sent f com_id r).deed ≡ true
-sent-quiet f com_id (Err e) = refl
-sent-quiet f com_id (Ok frame) =
+unframed-quiet : (f : Facts) (com_id : ℕ) (broken : Option Named) → is_quiet (unframed f com_id broken).deed ≡ true
+unframed-quiet f com_id None = refl
+unframed-quiet f com_id (Some named) = either (named.com_id == com_id) (unframed_in (session_named f com_id named.session)) (ignores NoFrame) (by_session (session_named f com_id named.session)) refl
+  where
+    by_session : (x : Option Begun) → is_quiet (unframed_in x).deed ≡ true
+    by_session None = refl
+    by_session (Some s) = refl
+
+sent-quiet : (f : Facts) (com_id : ℕ) (broken : Option Named) (r : Result Frame FrameError) → is_quiet (sent_by f com_id broken r).deed ≡ true
+sent-quiet f com_id broken (Err e) = unframed-quiet f com_id broken
+sent-quiet f com_id broken (Ok frame) =
     either (frame.com_id == com_id) (framed f com_id frame) (ignores NoFrame)
     (either (is_manager frame.session) (manager_event f com_id frame.session (message_in frame.payload)) (to_session f com_id frame.session frame.payload (session_named f com_id frame.session)) (either (is_discarded f.config.profile (message_in frame.payload)) (ignores Discarded) (answers com_id frame.session (to_manager f com_id (message_in frame.payload))) refl refl) (to_session-quiet f com_id frame.session frame.payload (session_named f com_id frame.session)))
     refl
 
 pub tcg_quiet : IsQuiet tcg
 tcg_quiet f protocol com_id blocks payload =
-    either (is_block_sid f.config.profile (Send protocol com_id blocks true)) (blocks_sid f payload) (send_item f protocol com_id blocks payload)
-    (either (has_owner f.rows || is_blocked f.block) (refuses SidKept) (did (BlockedSid (block_asked payload))) refl refl)
-    (either (is_sent f protocol com_id blocks) (sent f com_id (frame_in payload)) (refuses (unsent (is_some (f.waiting com_id)) protocol com_id blocks)) (sent-quiet f com_id (frame_in payload)) refl)
+    either (is_block_sid f.config.profile (Send protocol com_id blocks true)) (blocks_sid f payload) (send_other f protocol com_id blocks payload)
+    (either (has_owner f.rows || is_blocked f.beside.block) (refuses SidKept) (did (BlockedSid (block_asked payload))) refl refl)
+    (either (asks_stack f.config.profile protocol com_id blocks) (stack_sent f com_id payload) (send_item f protocol com_id blocks payload)
+    (either (is_stack_reset com_id payload) (stack_reset f com_id) (stack_kept com_id) refl refl)
+    (either (is_sent f protocol com_id blocks) (sent f com_id payload) (refuses (unsent (is_some (f.waiting com_id)) protocol com_id blocks)) (sent-quiet f com_id (broken_of f.config.profile payload) (frame_in payload)) refl))
 
 -- a quiet deed holds nothing, and is no write
 pub quiet-none : (d : Deed) → is_quiet d ≡ true → is_holding d ≡ false

@@ -32,6 +32,7 @@ use Rattle.audit.specs.declared.rules.rule.Rule.TheVariants.{NoCommand, Unreadab
 abbrev on_session : Deed → Bool
 on_session (InSession deed (Left its bytes)) = is_session_com_id its
 on_session (InSession deed Silent) = true
+on_session (InSession deed (Dropped its)) = true
 on_session _ = true
 
 either : (b : Bool) (e g : Event) → (b ≡ true → on_session e.deed ≡ true) → on_session g.deed ≡ true → on_session (cond b e g).deed ≡ true
@@ -40,16 +41,24 @@ either false e g h k = k
 
 to_session-on : (f : Facts) (com_id : ℕ) (named : Session) (payload : List ℕ) (s : Option Begun) → is_session_com_id com_id ≡ true → on_session (to_session f com_id named payload s).deed ≡ true
 to_session-on f com_id named payload None h = refl
-to_session-on f com_id named payload (Some s) h = either (breaks_off f.config.profile (item_in f.config.profile payload)) (broken_off s.sp) (answers com_id named (in_session f s (item_in f.config.profile payload))) (λ is. refl) h
+to_session-on f com_id named payload (Some s) h = either (breaks_off f.config.profile (item_in f.config.profile payload)) (broken_off BrokenOff s.sp) (answers com_id named (in_session f s (item_in f.config.profile payload))) (λ is. refl) h
 
 framed-on : (f : Facts) (com_id : ℕ) (frame : Frame) → is_session_com_id com_id ≡ true → on_session (framed f com_id frame).deed ≡ true
 framed-on f com_id frame h =
     either (is_manager frame.session) (manager_event f com_id frame.session (message_in frame.payload)) _
     (λ is. either (is_discarded f.config.profile (message_in frame.payload)) (ignores Discarded) (answers com_id frame.session (to_manager f com_id (message_in frame.payload))) (λ of. refl) h) (to_session-on f com_id frame.session frame.payload (session_named f com_id frame.session) h)
 
-sent-on : (f : Facts) (com_id : ℕ) (r : Result Frame FrameError) → is_session_com_id com_id ≡ true → on_session (sent f com_id r).deed ≡ true
-sent-on f com_id (Err e) h = refl
-sent-on f com_id (Ok frame) h = either (frame.com_id == com_id) (framed f com_id frame) (ignores NoFrame) (λ is. framed-on f com_id frame h) refl
+unframed-on : (f : Facts) (com_id : ℕ) (broken : Option Named) → on_session (unframed f com_id broken).deed ≡ true
+unframed-on f com_id None = refl
+unframed-on f com_id (Some named) = either (named.com_id == com_id) (unframed_in (session_named f com_id named.session)) (ignores NoFrame) (λ is. by_session (session_named f com_id named.session)) refl
+  where
+    by_session : (x : Option Begun) → on_session (unframed_in x).deed ≡ true
+    by_session None = refl
+    by_session (Some s) = refl
+
+sent-on : (f : Facts) (com_id : ℕ) (broken : Option Named) (r : Result Frame FrameError) → is_session_com_id com_id ≡ true → on_session (sent_by f com_id broken r).deed ≡ true
+sent-on f com_id broken (Err e) h = unframed-on f com_id broken
+sent-on f com_id broken (Ok frame) h = either (frame.com_id == com_id) (framed f com_id frame) (ignores NoFrame) (λ is. framed-on f com_id frame h) refl
 
 middle : (a b c : Bool) → (a && b && c) ≡ true → b ≡ true
 middle true true c h = refl
@@ -74,10 +83,13 @@ unqueued-on f payload (WriteDma lba count) = transfer-on f (Wrote lba payload) W
 unqueued-on f payload (Send protocol com_id blocks dma) =
     either (resets f.rows (Send protocol com_id blocks dma)) (did (WasReset programmatic)) _ (λ is. refl)
     (either (is_block_sid f.config.profile (Send protocol com_id blocks true)) (blocks_sid f payload) _
-    (λ is. either (has_owner f.rows || is_blocked f.block) (refuses SidKept) (did (BlockedSid (block_asked payload))) (λ is. refl) refl)
+    (λ is. either (has_owner f.rows || is_blocked f.beside.block) (refuses SidKept) (did (BlockedSid (block_asked payload))) (λ is. refl) refl)
+    (either (asks_stack f.config.profile protocol com_id blocks) (stack_sent f com_id payload) _ (λ is. either (is_stack_reset com_id payload) (stack_reset f com_id) (stack_kept com_id) (λ is. refl) refl)
     (either (is_sent f protocol com_id blocks) _ (refuses (unsent (is_some (f.waiting com_id)) protocol com_id blocks))
-    (λ is. sent-on f com_id (frame_in payload) (middle (is_trusted protocol blocks) (is_session_com_id com_id) (is_free_for f com_id blocks) is)) refl))
-unqueued-on f payload (Receive protocol com_id blocks dma) = either (is_received f protocol com_id blocks) _ (refuses (unreceived protocol blocks)) (λ is. received-on com_id blocks (f.waiting com_id)) refl
+    (λ is. sent-on f com_id (broken_of f.config.profile payload) (frame_in payload) (middle (is_trusted protocol blocks) (is_session_com_id com_id) (is_free_for f com_id blocks) is)) refl)))
+unqueued-on f payload (Receive protocol com_id blocks dma) =
+    either (asks_stack f.config.profile protocol com_id blocks) (did (InSession (StackTold com_id) Silent)) _ (λ is. refl)
+    (either (is_received f protocol com_id blocks) _ (refuses (unreceived protocol blocks)) (λ is. received-on com_id blocks (f.waiting com_id)) refl)
 unqueued-on f payload _ = refl
 
 queued_by-on : (h : RegH2d) (tag : ℕ) (c : Command) (v : Verdict) → on_session (queued_by h tag c v).deed ≡ true
@@ -144,6 +156,7 @@ taken com_id its past false h = h
 left-none : (com_id : ℕ) (d : Deed) (past : List Event) → is_session_com_id com_id ≡ false → on_session d ≡ true → waiting past com_id ≡ None → left com_id (waits com_id d) past ≡ None
 left-none com_id (InSession deed (Left its bytes)) past other on h = ap (λ b. left com_id (cond b (Some (Some bytes)) None) past) (apart com_id its other on) ∙ h
 left-none com_id (InSession deed Silent) past other on h = h
+left-none com_id (InSession deed (Dropped its)) past other on h = taken com_id its past (its == com_id) h
 left-none com_id (Took its) past other on h = taken com_id its past (its == com_id) h
 left-none com_id (BlockedSid block) past other on h = h
 left-none com_id (Chose feature) past other on h = h

@@ -26,7 +26,7 @@ use Rattle.device_data.specs.Discovery.{has_owner}
 use Rattle.device_data.specs.ErrorLog.{sized}
 use Rattle.sessions.specs.Starts.{sync_message}
 use Rattle.history.specs.Opening.{Origin, factory_origin}
-use Rattle.history.specs.Readers.{sid_block, in_force, tries}
+use Rattle.history.specs.Readers.{beside, in_force, tries}
 use Rattle.history.specs.Decisions.{any_below}
 use Rattle.history.specs.History.{Act, Accept, Reset, log}
 use Rattle.history.proofs.Scripts.{msid, config, new_drive, fis, tell, start_as, in_it, set_cells, try_pin, call_of, replies, whys, fails_with, said}
@@ -39,7 +39,7 @@ block : ℕ → Act
 block first = Accept (fis 0x5f 2 0x500 1) (sized 512 (first ∷ []))
 
 left : Origin → List Act → SidBlock
-left o acts = sid_block (log o (reverse acts))
+left o acts = (beside (log o (reverse acts))).block
 
 owned : List Act → Bool
 owned acts = has_owner (in_force field (log field (reverse acts)))

@@ -89,7 +89,7 @@ unqueued-quiet f payload (WriteDma lba count) = transfer-quiet f (Wrote lba payl
 unqueued-quiet f payload (Send protocol com_id blocks dma) =
     either (resets f.rows (Send protocol com_id blocks dma)) (did (WasReset programmatic)) _ (λ is. refl)
     (either (is_block_sid f.config.profile (Send protocol com_id blocks true)) (blocks_sid f payload) _
-    (λ is. either (has_owner f.rows || is_blocked f.block) (refuses SidKept) (did (BlockedSid (block_asked payload))) (λ is. refl) refl)
+    (λ is. either (has_owner f.rows || is_blocked f.beside.block) (refuses SidKept) (did (BlockedSid (block_asked payload))) (λ is. refl) refl)
     (either (is_sent f protocol com_id blocks) _ (refuses (unsent (is_some (f.waiting com_id)) protocol com_id blocks))
     (λ is. sent-quiet f com_id (frame_in payload) (middle (is_trusted protocol blocks) (is_session_com_id com_id) (is_free_for f com_id blocks) is)) refl))
 unqueued-quiet f payload (Receive protocol com_id blocks dma) = either (is_received f protocol com_id blocks) _ (refuses (unreceived protocol blocks)) (λ is. received-quiet com_id blocks (f.waiting com_id)) refl

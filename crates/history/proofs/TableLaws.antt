@@ -7,7 +7,7 @@ use Rattle.std.proofs.lemmas.Bool.Decides.{nat_tests}
 use Rattle.sp_cells.specs.declared.names.Sp.{Sp}
 use Rattle.sp_cells.specs.declared.names.Sp.TheVariants.{Admin, Locking}
 use Rattle.sp_cells.specs.Config.{table_sectors}
-use Rattle.sessions.specs.Deeds.{cells_set, bytes_set, Change, Sets, Restores, Resets, SessionDeed, Unchanged, Started, Tried, Changed, Began, Committed, Aborted, Ended, Activated, Reverted, Erased}
+use Rattle.sessions.specs.Deeds.{cells_set, bytes_set, Change, Sets, Restores, Resets, SessionDeed, Unchanged, Started, Tried, Changed, Began, Committed, Aborted, Ended, Activated, Reverted, Erased, Drew, HostTold, StackReset, StackTold}
 use Rattle.history.specs.Changes.{byte_then, byte_in}
 use Rattle.history.specs.Opening.{Origin}
 use Rattle.history.specs.Events.{Response, Deed, Nothing, InSession, OfQueue, Wrote, Took, BlockedSid, Chose, WasReset, Event}
@@ -72,6 +72,10 @@ brought-inside o es (InSession (Aborted s) r) can own = refl
 brought-inside o es (InSession (Ended s) r) can own = refl
 brought-inside o es (InSession (Activated pin) r) can own = pin-inside (size_of o) pin
 brought-inside o es (InSession (Erased w) r) can own = refl
+brought-inside o es (InSession (Drew count) r) can own = refl
+brought-inside o es (InSession (HostTold com_id limits) r) can own = refl
+brought-inside o es (InSession (StackTold com_id) r) can own = refl
+brought-inside o es (InSession (StackReset com_id ends) r) can own = refl
 brought-inside o es (InSession (Reverted Admin w) r) can own = refl
 brought-inside o es (InSession (Reverted Locking w) r) can own = refl
 brought-inside o es Nothing can own = refl

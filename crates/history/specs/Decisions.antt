@@ -2,6 +2,7 @@
 -- do. The order of the rules stands here once.
 use Rattle.basics.specs.declared.profile.Profile.TheVariants.{Base, Field, Opal}
 use Rattle.basics.specs.declared.profile.Profile.{Profile}
+use Rattle.basics.specs.Profiles.{has_opal}
 use Rattle.std.specs.Prelude.{ℕ, zero, suc, ◌+◌, ◌-◌, ◌*◌, ◌==◌, Bool, true, false, not, ◌&&◌, ◌||◌, nat_le, nat_lt, List, length, slice_index, Option, Some, None, is_some, Result, Ok, Err, if◌then◌else◌}
 use Rattle.fis.specs.Types.{h2d_type}
 use Rattle.fis.specs.Tags.{slot_count}
@@ -15,7 +16,7 @@ use Rattle.sp_cells.specs.Ranges.{number}
 use Rattle.sp_cells.specs.Resets.{programmatic}
 use Rattle.locking.specs.declared.range.Op.{Op}
 use Rattle.locking.specs.declared.range.Op.TheVariants.{Read, Write}
-use Rattle.trusted_cmds.specs.Commands.{is_queued, tag_of, sector_size, is_programmatic_reset, is_protocol_list, is_certificate_data}
+use Rattle.trusted_cmds.specs.Commands.{is_queued, tag_of, sector_size, reset_protocol, is_programmatic_reset, is_protocol_list, is_certificate_data}
 use Rattle.audit.specs.declared.reason.Why.{Why}
 use Rattle.audit.specs.declared.rules.rule.Rule.{Rule}
 use Rattle.audit.specs.declared.rules.rule.Rule.TheVariants.{NoCommand, Unreadable, QueueFailed, Mixed, TagHeld, BeyondDrive, Protocol, ComId}
@@ -29,7 +30,8 @@ use Rattle.locking.specs.declared.ranges.Verdict.TheVariants.{Serve, Shadow, Den
 use Rattle.locking.specs.Range.{RangeRows}
 use Rattle.locking.specs.Ranges.{ranges_in}
 use Rattle.locking.specs.Verdict.{verdict_of}
-use Rattle.history.specs.Events.{HeldCommand, Held, Completed, CompletedWrite, QueueFailed, QueueMended, Deed, Nothing, OfQueue, Wrote, Took, WasReset, Chose, Event, did}
+use Rattle.sessions.specs.Deeds.{StackTold}
+use Rattle.history.specs.Events.{InSession, Silent, HeldCommand, Held, Completed, CompletedWrite, QueueFailed, QueueMended, Deed, Nothing, OfQueue, Wrote, Took, WasReset, Chose, Event, did}
 use Rattle.history.specs.Facts.{Facts}
 use Rattle.history.specs.Items.{Items}
 
@@ -125,6 +127,13 @@ discovery_com_id = 1
 abbrev pub is_trusted : ℕ → ℕ → Bool
 is_trusted protocol blocks = protocol == 1 && nat_lt 0 blocks
 
+-- What is sent to the stack of a ComID, and received of it, under the opal profile: security protocol 02h, with one block at least
+-- (Opal SSC 2.01, section 3.2.2; Core 2.01, section 3.3.4.7.5).
+abbrev pub asks_stack : Profile → ℕ → ℕ → ℕ → Bool
+asks_stack profile protocol com_id blocks =
+    has_opal profile
+    && (protocol == reset_protocol && (is_session_com_id com_id && nat_lt 0 blocks))
+
 -- A command resets the drive where the rows let it (Opal SSC 2.01, section 4.2, table TPerInfo).
 abbrev pub lets_reset : LookUp → Bool
 lets_reset rows = number rows Admin tper_info programmatic_reset_enable_column == 1
@@ -159,10 +168,16 @@ is_received f protocol com_id blocks =
 abbrev pub unreceived : ℕ → ℕ → Rule
 unreceived protocol blocks = if is_trusted protocol blocks then ComId else Protocol
 
-abbrev pub receive : Facts → ℕ → ℕ → ℕ → Event
-receive f protocol com_id blocks =
+abbrev pub receive_other : Facts → ℕ → ℕ → ℕ → Event
+receive_other f protocol com_id blocks =
     if is_received f protocol com_id blocks
     then received com_id blocks (f.waiting com_id) else refuses (unreceived protocol blocks)
+
+-- What is received of a stack is told once.
+abbrev pub receive : Facts → ℕ → ℕ → ℕ → Event
+receive f protocol com_id blocks =
+    if asks_stack f.config.profile protocol com_id blocks
+    then did (InSession (StackTold com_id) Silent) else receive_other f protocol com_id blocks
 
 -- Commands, by what an item does.
 

@@ -13,10 +13,11 @@ use Rattle.basics.specs.Profiles.{has_field}
 use Rattle.shadow_mbr.specs.declared.erasure.Erasure.{Erasure}
 use Rattle.methods.specs.Erasures.{erased_by_revert, erased_by_key, erased_by_revert_sp, is_wholly_locked}
 use Rattle.history.specs.Opening.{Origin}
-use Rattle.sessions.specs.Deeds.{cells_set, bytes_set, Change, Sets, Restores, Resets, Begun, SessionDeed, Unchanged, Started, Tried, Changed, Began, Committed, Aborted, Ended, Activated, Reverted, Erased}
+use Rattle.sessions.specs.Deeds.{cells_set, bytes_set, Change, Sets, Restores, Resets, Begun, SessionDeed, Unchanged, Started, Tried, Changed, Began, Committed, Aborted, Ended, Activated, Reverted, Erased, Drew, HostTold, StackReset, StackTold}
 use Rattle.sessions.specs.Made.{is_within}
 use Rattle.sessions.specs.Starts.{is_in_use}
 use Rattle.history.specs.Events.{Response, InSession, Event}
+use Rattle.history.specs.Facts.{is_on_com_id}
 use Rattle.history.specs.Readers.{session_on, next_number, open_on, is_of, in_force}
 use Rattle.history.specs.History.{Act, event, log}
 
@@ -122,6 +123,11 @@ CanDo o past (Activated pin) = IsOutside past Admin
     × (is_in_use (in_force o past) Locking ≡ false)
 CanDo o past (Reverted sp erasure) = IsRevert o past erasure ⊎ IsRevertSp o past sp erasure
 CanDo o past (Erased erasure) = IsNewKey o past erasure
+CanDo o past (Drew count) = Unit {0}
+CanDo o past (HostTold com_id limits) = Unit {0}
+CanDo o past (StackReset com_id ends) =
+    (sp : Sp) → ends sp ≡ is_on_com_id com_id (session_on past sp)
+CanDo o past (StackTold com_id) = Unit {0}
 
 abbrev pub DeedLaw : Type 0
 DeedLaw =

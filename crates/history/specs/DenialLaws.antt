@@ -76,9 +76,9 @@ pub record AttemptDenied (f : Facts) (act : Act) (why : Why) : Type 0 where
   pub authority : Uid
   pub pin : List ℕ
   pub attempts : judgement_on f session (uid_of object) (uid_of method) args
-      ≡ Attempts f.block authority pin
+      ≡ Attempts f.beside.block authority pin
   pub failure : AttemptFailure
-  pub fails : failure_of f.block f.rows session.sp authority pin ≡ Some failure
+  pub fails : failure_of f.beside.block f.rows session.sp authority pin ≡ Some failure
   pub why_is : why ≡ AttemptFailed session.sp authority failure
 
 -- An attempt of a StartSession that fails.

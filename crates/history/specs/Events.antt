@@ -11,10 +11,12 @@ use Rattle.locking.specs.declared.ranges.Verdict.{Verdict}
 use Rattle.device_data.specs.declared.log_page.Failure.{Failure}
 use Rattle.sessions.specs.Deeds.{SessionDeed}
 
--- The response that an item left on its ComID, the bytes of a frame; or that it left none.
+-- The response that an item left on its ComID, the bytes of a frame; or that it left none; or that what waited there was
+-- dropped.
 pub data Response : Type 0 where
   Left : (com_id : ℕ) (bytes : List ℕ) → Response
   Silent : Response
+  Dropped : (com_id : ℕ) → Response
 
 -- A command that is held, with the verdict of its acceptance.
 pub record HeldCommand : Type 0 where
@@ -34,7 +36,7 @@ pub data QueueDeed : Type 0 where
 -- What an act did, by the part of the drive that it did it to.
 pub data Deed : Type 0 where
   Nothing : Deed
-  -- an item that was taken, or what is none and ended a session, and its response
+  -- an item that was taken, or what is none and ended a session, and its response; or what was asked of the stack of a ComID
   InSession : (deed : SessionDeed) (response : Response) → Deed
   OfQueue : (deed : QueueDeed) → Deed
   -- an unqueued write

@@ -12,7 +12,7 @@ use Rattle.methods.specs.Calls.{judged_with, outcome_of, outcome_in}
 use Rattle.history.specs.Opening.{Origin}
 use Rattle.sessions.specs.Deeds.{Begun}
 use Rattle.history.specs.Events.{Event}
-use Rattle.history.specs.Readers.{session_on, sid_block}
+use Rattle.history.specs.Readers.{session_on, beside}
 use Rattle.history.specs.Facts.{facts}
 use Rattle.history.specs.Tcg.{judgement_on, started}
 use Rattle.history.specs.History.{Act, log}
@@ -25,7 +25,7 @@ abbrev pub CallLaw : Type 0
 CallLaw =
     (o : Origin) (acts : List Act) (s : Stored) (l : Live) (session : Begun) (object method : Uid)
     (args : Trees) → KeepsStore s o (log o acts) → KeepsSessions l (log o acts)
-    → l.block ≡ sid_block (log o acts)
+    → l.beside ≡ beside (log o acts)
     → session_on (log o acts) session.sp ≡ Some session
     → outcome_in s (id_of session) (judged_with s l (id_of session) object method (values_of args))
     ≡ outcome_of (facts o (log o acts)).rows session.sp
@@ -36,7 +36,7 @@ abbrev pub StartLaw : Type 0
 StartLaw =
     (o : Origin) (past : List Event) (s : Stored) (l m : Live) (com_id : ℕ) (args : List Tree)
     → KeepsStore s o past → KeepsSessions l past → AreNumbered l
-    → l.block ≡ sid_block past → m.block ≡ l.block
+    → l.beside ≡ beside past → m.beside ≡ l.beside
     → m.next ≡ start_next s l args
     → ((n : ℕ) → session_at m n ≡ start_at s l com_id args n)
     → Meets (started (facts o past) com_id args)

@@ -16,19 +16,19 @@ use Rattle.sp_tables.specs.Contents.{cells_look_up}
 use Rattle.sp_tables.specs.AtReset.{is_power_cycle}
 use Rattle.audit.specs.declared.reason.AttemptFailure.{AttemptFailure}
 use Rattle.audit.specs.declared.reason.AttemptFailure.TheVariants.{WrongPin, LockedOut, Disabled, Blocked, Unknown}
-use Rattle.trusted_cmds.specs.declared.block.SidBlock.{SidBlock}
-use Rattle.trusted_cmds.specs.declared.block.SidBlock.TheVariants.{Free}
 use Rattle.shadow_mbr.specs.Erasure.{is_erased}
 use Rattle.shadow_mbr.specs.Stored.{sector_size, zeros}
 use Rattle.history.specs.Opening.{Origin}
 use Rattle.sp_tables.specs.Looks.{RowLook}
-use Rattle.sessions.specs.Deeds.{cells_set, Change, Sets, Restores, Resets, Begun, SessionDeed, Started, Tried, Changed, Began, Committed, Aborted, Ended, Activated, Reverted, erased_by}
-use Rattle.sessions.specs.Block.{block_after, block_at_reset}
+use Rattle.sessions.specs.Deeds.{cells_set, Change, Sets, Restores, Resets, Begun, SessionDeed, Started, Tried, Changed, Began, Committed, Aborted, Ended, Activated, Reverted, StackReset, erased_by}
+use Rattle.sessions.specs.declared.beside.Beside.{Beside}
+use Rattle.sessions.specs.Beside.{new_beside, beside_at_reset}
+use Rattle.sessions.specs.Made.{beside_after}
 use Rattle.history.specs.Changes.{apply_all, byte_in, with_tries}
 use Rattle.device_data.specs.declared.log_page.Failure.{Failure}
 use Rattle.device_data.specs.declared.settings.Settings.{Settings}
 use Rattle.device_data.specs.Settings.{first_settings, with_feature, settings_at_reset}
-use Rattle.history.specs.Events.{HeldCommand, QueueDeed, Held, Completed, CompletedWrite, QueueFailed, QueueMended, QueueEnded, Deed, InSession, OfQueue, Wrote, Took, WasReset, BlockedSid, Chose, Event, latest, since, every, count, Left, Silent}
+use Rattle.history.specs.Events.{HeldCommand, QueueDeed, Held, Completed, CompletedWrite, QueueFailed, QueueMended, QueueEnded, Deed, InSession, OfQueue, Wrote, Took, WasReset, BlockedSid, Chose, Event, latest, since, every, count, Left, Silent, Dropped}
 
 -- It speaks of this SP.
 abbrev pub on_sp : {A : Type 0} → Sp → Sp → A → Option A
@@ -41,6 +41,10 @@ restores Locking sp = sp_eq Locking sp
 
 abbrev pub if_restored : {A : Type 0} → Sp → Sp → A → Option A
 if_restored reverted sp x = if restores reverted sp then Some x else None
+
+-- The reset of a ComID's stack ends the sessions of these SPs.
+abbrev pub if_ending : {A : Type 0} → (Sp → Bool) → Sp → A → Option A
+if_ending ends sp x = if ends sp then Some x else None
 
 -- Sessions (Core 2.01, section 3.3.7).
 
@@ -59,6 +63,7 @@ abbrev pub lives_by : Sp → SessionDeed → Option (Option Begun)
 lives_by sp (Started session row) = on_sp sp session.sp (Some session)
 lives_by sp (Ended ended) = on_sp sp ended None
 lives_by sp (Reverted reverted erasure) = if_restored reverted sp None
+lives_by sp (StackReset com_id ends) = if_ending ends sp None
 lives_by sp _ = None
 
 abbrev pub living : Sp → Deed → Option (Option Begun)
@@ -94,6 +99,7 @@ turns_by sp (Aborted aborted) = on_sp sp aborted None
 turns_by sp (Ended ended) = on_sp sp ended None
 turns_by sp (Activated pin) = Some None
 turns_by sp (Reverted reverted erasure) = Some None
+turns_by sp (StackReset com_id ends) = if_ending ends sp None
 turns_by sp _ = None
 
 abbrev pub turns : Sp → Deed → Option (Option ℕ)
@@ -216,18 +222,19 @@ abbrev pub tries : List Event → Sp → Uid → ℕ
 tries [] sp row = 0
 tries (event ∷ before) sp row = tries_then sp row event.deed (tries before sp row)
 
--- Whether SID is blocked (Block SID Authentication feature set 1.00). It is no row, so that no transaction
--- has part in it.
+-- What is kept beside rows and sessions, so that no transaction has part in it: whether SID is blocked (Block SID
+-- Authentication feature set 1.00), how many random bytes were given, and what is known of each ComID (Core 2.01, sections
+-- 5.2.2 and 3.3.4.7.5).
 
-abbrev pub block_then : Deed → SidBlock → SidBlock
-block_then (BlockedSid block) before = block
-block_then (InSession deed response) before = block_after deed before
-block_then (WasReset kind) before = block_at_reset kind before
-block_then _ before = before
+abbrev pub beside_then : Deed → Beside → Beside
+beside_then (BlockedSid block) before = record before { block = block }
+beside_then (InSession deed response) before = beside_after deed before
+beside_then (WasReset kind) before = beside_at_reset kind before
+beside_then _ before = before
 
-abbrev pub sid_block : List Event → SidBlock
-sid_block [] = Free
-sid_block (event ∷ before) = block_then event.deed (sid_block before)
+abbrev pub beside : List Event → Beside
+beside [] = new_beside
+beside (event ∷ before) = beside_then event.deed (beside before)
 
 -- What a host has chosen of the drive's interface (ACS-3, SET FEATURES).
 
@@ -336,6 +343,7 @@ abbrev pub waits : ℕ → Deed → Option (Option (List ℕ))
 waits com_id (InSession deed (Left its bytes)) =
     if its == com_id then Some (Some bytes) else None
 waits com_id (InSession deed Silent) = None
+waits com_id (InSession deed (Dropped its)) = if its == com_id then Some None else None
 waits com_id (Took its) = if its == com_id then Some None else None
 waits com_id (WasReset kind) = Some None
 waits com_id _ = None

@@ -1,12 +1,13 @@
 -- What the items of this drive do and give, by the facts: the session manager, sessions, responses
 -- (Core 2.01, chapter 3; Opal SSC 2.01, section 3.1.1, Level 0 discovery).
 use Rattle.basics.specs.declared.profile.Profile.TheVariants.{Base, Field, Opal}
-use Rattle.basics.specs.Profiles.{has_field}
+use Rattle.basics.specs.Profiles.{has_field, has_opal}
 use Rattle.basics.specs.declared.profile.Profile.{Profile}
 use Rattle.tcg_tokens.specs.Lex.{begins_with_end}
 use Rattle.device_data.specs.Protocols.{protocol_list, certificate_data}
 use Rattle.trusted_cmds.specs.Commands.{is_protocol_list}
 use Rattle.trusted_cmds.specs.BlockSid.{is_block_sid, block_asked, is_blocked}
+use Rattle.device_data.specs.StackReset.{is_stack_reset, stack_answer}
 use Rattle.device_data.specs.DevicePages.{device_log}
 use Rattle.std.specs.Prelude.{ℕ, zero, suc, ◌*◌, ◌==◌, Bool, true, false, not, ◌&&◌, ◌||◌, nat_le, List, [], length, Option, Some, None, is_some, Result, Ok, Err, if◌then◌else◌}
 use Rattle.fis.specs.declared.any.Fis.{Fis}
@@ -17,7 +18,8 @@ use Rattle.sp_cells.specs.declared.names.Sp.{Sp}
 use Rattle.sp_cells.specs.Names.{session_manager, properties, start_session}
 use Rattle.compacket.specs.declared.session.Session.{Session}
 use Rattle.compacket.specs.declared.error.FrameError.{FrameError}
-use Rattle.compacket.specs.Frames.{Frame, reading as frame_in}
+use Rattle.compacket.specs.declared.session.Named.{Named}
+use Rattle.compacket.specs.Frames.{Frame, broken_in, reading as frame_in}
 use Rattle.compacket.specs.Spelling.{frame_bytes, com_packet_header}
 use Rattle.tcg_tokens.specs.declared.error.TokenError.{TokenError}
 use Rattle.tcg_tokens.specs.Message.{Message, call, reply, end_session, begin, end}
@@ -31,7 +33,7 @@ use Rattle.trusted_cmds.specs.declared.command.CommandError.{CommandError}
 use Rattle.trusted_cmds.specs.Profiles.{reading_in}
 use Rattle.sessions.specs.Attempts.{credential}
 use Rattle.tcg_calls.specs.Asks.{uid_of}
-use Rattle.sessions.specs.Deeds.{Begun, SessionDeed, Unchanged, Started, Began, Committed, Aborted, Ended, Outcome, says, refuses as refuses_item, tried}
+use Rattle.sessions.specs.Deeds.{Begun, SessionDeed, Unchanged, Started, Began, Committed, Aborted, Ended, HostTold, StackReset, StackTold, Outcome, says, refuses as refuses_item, tried}
 use Rattle.tcg_calls.specs.Statuses.{transaction_failure, fail}
 use Rattle.sessions.specs.declared.opening.Opening.{Opening}
 use Rattle.sessions.specs.declared.opening.StartVerdict.{StartVerdict}
@@ -39,19 +41,21 @@ use Rattle.sessions.specs.declared.opening.StartVerdict.TheVariants.{Refused, At
 use Rattle.sessions.specs.Gains.{first_held}
 use Rattle.sessions.specs.Starts.{opening_of, verdict, host_of, reply_to, denied_with, rule_of}
 use Rattle.audit.specs.declared.rules.rule.Rule.{Rule}
-use Rattle.audit.specs.declared.rules.rule.Rule.TheVariants.{NoMethod, NoItem, AlreadyOpen, NoneOpen, NoSession, BrokenOff, Discarded, NoFrame, SidKept, LongTransfer, Protocol, ComId, ResponseWaits}
-use Rattle.sessions.specs.Properties.{max_com_packet_size, properties_message}
+use Rattle.audit.specs.declared.rules.rule.Rule.TheVariants.{NoMethod, NoItem, AlreadyOpen, NoneOpen, NoSession, BrokenOff, Discarded, NoFrame, NoSubpacket, NoStackReset, SidKept, LongTransfer, Protocol, ComId, ResponseWaits}
+use Rattle.sessions.specs.declared.beside.HostLimits.{HostLimits}
+use Rattle.sessions.specs.Beside.{channel_of}
+use Rattle.sessions.specs.Properties.{max_com_packet_size, properties_message, properties_deed}
 use Rattle.methods.specs.Said.{refusal_of}
 use Rattle.methods.specs.Judgement.{Judgement, asked, judged}
 use Rattle.methods.specs.Calls.{outcome_of}
-use Rattle.history.specs.Events.{Nothing, InSession, Left, Silent, BlockedSid, Event, did, ignores}
-use Rattle.history.specs.Facts.{Facts, live, session_named, has_open, standing}
+use Rattle.history.specs.Events.{Nothing, InSession, Left, Silent, Dropped, BlockedSid, Event, did, ignores}
+use Rattle.history.specs.Facts.{Facts, live, session_named, is_on_com_id, has_open, standing}
 use Rattle.device_data.specs.Discovery.{has_owner, discovery_of}
 use Rattle.device_data.specs.Identity.{identity_of}
 use Rattle.device_data.specs.ErrorLog.{sized}
 use Rattle.shadow_mbr.specs.Stored.{sector_size}
 use Rattle.history.specs.Items.{Items}
-use Rattle.history.specs.Decisions.{refuses, is_session_com_id, discovery_com_id, is_trusted, asks_certificates, unqueued_of, known_of, commanded_of, accepted_of}
+use Rattle.history.specs.Decisions.{refuses, is_session_com_id, discovery_com_id, is_trusted, asks_stack, asks_certificates, unqueued_of, known_of, commanded_of, accepted_of}
 use Rattle.history.specs.Answers.{block_of, data_read_of, answer_data_of, accepted_data_of, answer_fises_of, accepted_fises_of}
 
 -- Items.
@@ -105,10 +109,19 @@ started f com_id args = started_by f com_id (host_of args) (opening_of f.config.
 abbrev pub is_method_of_manager : Uid → Uid → Uid → Bool
 is_method_of_manager wanted object method = object.0 == session_manager.0 && method.0 == wanted.0
 
+-- Properties: what its host takes is kept of the ComID.
+abbrev pub properties_with : Profile → ℕ → HostLimits → List Tree → Outcome
+properties_with profile com_id before args =
+    says (properties_deed profile com_id before args) (properties_message profile before args)
+
+abbrev pub properties_told : Facts → ℕ → List Tree → Outcome
+properties_told f com_id args =
+    properties_with f.config.profile com_id (channel_of f.beside com_id).limits args
+
 abbrev pub called_manager : Facts → ℕ → Uid → Uid → List Tree → Outcome
 called_manager f com_id object method args =
     if is_method_of_manager properties object method
-    then says Unchanged (properties_message f.config.profile args)
+    then properties_told f com_id args
     else (if is_method_of_manager start_session object method then started f com_id args
     else refuses_item (refusal_of fail) NoMethod)
 
@@ -159,30 +172,25 @@ item_in profile payload =
 
 -- Under the opal profile what is no item ends the session that it is sent to, and leaves no response (Opal SSC 2.01,
 -- section 3.3.4.1.3).
-abbrev pub is_opal : Profile → Bool
-is_opal Base = false
-is_opal Field = false
-is_opal Opal = true
-
 abbrev pub breaks_off : Profile → Result Message TokenError → Bool
 breaks_off profile (Ok (call object method args status)) = false
 breaks_off profile (Ok (begin n)) = false
 breaks_off profile (Ok (end n)) = false
 breaks_off profile (Ok end_session) = false
-breaks_off profile (Ok (reply results status)) = is_opal profile
-breaks_off profile (Err e) = is_opal profile
+breaks_off profile (Ok (reply results status)) = has_opal profile
+breaks_off profile (Err e) = has_opal profile
 
-abbrev pub broken_off : Sp → Event
-broken_off sp = record {
+abbrev pub broken_off : Rule → Sp → Event
+broken_off rule sp = record {
   failed = None;
   deed = InSession (Ended sp) Silent;
   denied = None;
-  rule = Some BrokenOff;
+  rule = Some rule;
 }
 
 abbrev pub item_event : Facts → ℕ → Session → Begun → Result Message TokenError → Event
 item_event f com_id named session item =
-    if breaks_off f.config.profile item then broken_off session.sp
+    if breaks_off f.config.profile item then broken_off BrokenOff session.sp
     else answers com_id named (in_session f session item)
 
 -- An item for no live session is taken, and leaves no response.
@@ -199,7 +207,7 @@ is_of_manager (Ok (call object method args status)) =
 is_of_manager _ = false
 
 abbrev pub is_discarded : Profile → Result Message TokenError → Bool
-is_discarded profile item = is_opal profile && not (is_of_manager item)
+is_discarded profile item = has_opal profile && not (is_of_manager item)
 
 abbrev pub manager_event : Facts → ℕ → Session → Result Message TokenError → Event
 manager_event f com_id named item =
@@ -212,16 +220,53 @@ framed f com_id frame =
     then manager_event f com_id frame.session (message_in frame.payload)
     else to_session f com_id frame.session frame.payload (session_named f com_id frame.session)
 
--- A frame that is none, or that names another ComID, is taken likewise.
-abbrev pub sent : Facts → ℕ → Result Frame FrameError → Event
-sent f com_id (Err e) = ignores NoFrame
-sent f com_id (Ok frame) = if frame.com_id == com_id then framed f com_id frame else ignores NoFrame
+-- What carries no whole subpacket ends the session that it names, under the opal profile too (the same section). Any other frame
+-- that is none, or that names another ComID, is taken likewise.
+abbrev pub unframed_in : Option Begun → Event
+unframed_in None = ignores NoFrame
+unframed_in (Some session) = broken_off NoSubpacket session.sp
+
+abbrev pub unframed : Facts → ℕ → Option Named → Event
+unframed f com_id None = ignores NoFrame
+unframed f com_id (Some named) =
+    if named.com_id == com_id
+    then unframed_in (session_named f com_id named.session) else ignores NoFrame
+
+abbrev pub broken_of : Profile → List ℕ → Option Named
+broken_of profile payload = if has_opal profile then broken_in payload else None
+
+abbrev pub sent_by : Facts → ℕ → Option Named → Result Frame FrameError → Event
+sent_by f com_id broken (Err e) = unframed f com_id broken
+sent_by f com_id broken (Ok frame) =
+    if frame.com_id == com_id then framed f com_id frame else ignores NoFrame
+
+abbrev pub sent : Facts → ℕ → List ℕ → Event
+sent f com_id payload = sent_by f com_id (broken_of f.config.profile payload) (frame_in payload)
+
+-- The reset of a ComID's stack ends its sessions, aborts their transactions, and drops the response that waits (Core 2.01,
+-- section 3.3.4.7.5). Whatever else is sent there does nothing.
+abbrev pub stack_reset : Facts → ℕ → Event
+stack_reset f com_id =
+    did (InSession (StackReset com_id (λ sp. is_on_com_id com_id (f.session_on sp)))
+    (Dropped com_id))
+
+abbrev pub stack_kept : ℕ → Event
+stack_kept com_id = record {
+  failed = None;
+  deed = InSession (StackTold com_id) Silent;
+  denied = None;
+  rule = Some NoStackReset;
+}
+
+abbrev pub stack_sent : Facts → ℕ → List ℕ → Event
+stack_sent f com_id payload =
+    if is_stack_reset com_id payload then stack_reset f com_id else stack_kept com_id
 
 -- SID is blocked where its PIN is the MSID still, and it is not blocked yet (Block SID Authentication
 -- feature set 1.00). No session ends.
 abbrev pub blocks_sid : Facts → List ℕ → Event
 blocks_sid f payload =
-    if has_owner f.rows || is_blocked f.block
+    if has_owner f.rows || is_blocked f.beside.block
     then refuses SidKept else did (BlockedSid (block_asked payload))
 
 -- Under the opal profile a send has no more bytes than the largest ComPacket (Core 2.01, section 3.3.10, MaxComPacketSize;
@@ -250,13 +295,18 @@ is_sent f protocol com_id blocks =
 abbrev pub send_item : Facts → ℕ → ℕ → ℕ → List ℕ → Event
 send_item f protocol com_id blocks payload =
     if is_sent f protocol com_id blocks
-    then sent f com_id (frame_in payload)
+    then sent f com_id payload
     else refuses (unsent (is_some (f.waiting com_id)) protocol com_id blocks)
+
+abbrev pub send_other : Facts → ℕ → ℕ → ℕ → List ℕ → Event
+send_other f protocol com_id blocks payload =
+    if asks_stack f.config.profile protocol com_id blocks
+    then stack_sent f com_id payload else send_item f protocol com_id blocks payload
 
 abbrev pub send : Facts → ℕ → ℕ → ℕ → List ℕ → Event
 send f protocol com_id blocks payload =
     if is_block_sid f.config.profile (Send protocol com_id blocks true)
-    then blocks_sid f payload else send_item f protocol com_id blocks payload
+    then blocks_sid f payload else send_other f protocol com_id blocks payload
 
 -- A receive: the response where it fits, else a header that tells its size, or a header alone where
 -- none waits.
@@ -269,7 +319,7 @@ received_bytes com_id room (Some response) =
 abbrev pub receive_data : Facts → ℕ → ℕ → List ℕ
 receive_data f com_id room =
     if com_id == discovery_com_id
-    then sized room (discovery_of f.config.profile f.rows f.block)
+    then sized room (discovery_of f.config.profile f.rows f.beside.block)
     else sized room (received_bytes com_id room (f.waiting com_id))
 
 -- The certificates, of the opal profile, and else what waits on a ComID.
@@ -277,14 +327,20 @@ abbrev pub certificates_or : Bool → Facts → ℕ → ℕ → List ℕ
 certificates_or true f com_id room = sized room certificate_data
 certificates_or false f com_id room = receive_data f com_id room
 
+-- Or what is told of the stack of a ComID.
+abbrev pub stack_or : Bool → Facts → Command → ℕ → ℕ → List ℕ
+stack_or true f command com_id room =
+    sized room (stack_answer com_id (channel_of f.beside com_id).was_reset)
+stack_or false f command com_id room =
+    certificates_or (asks_certificates f.config.profile command) f com_id room
+
 -- The data of a receive, of IDENTIFY DEVICE, and of the pages that tell of the device.
 abbrev pub item_data : Facts → Command → List ℕ
 item_data f (Receive protocol com_id blocks dma) =
     if is_protocol_list (Receive protocol com_id blocks dma)
     then sized (sector_size * blocks) protocol_list
-    else certificates_or
-    (asks_certificates f.config.profile (Receive protocol com_id blocks dma))
-    f com_id (sector_size * blocks)
+    else stack_or (asks_stack f.config.profile protocol com_id blocks) f
+    (Receive protocol com_id blocks dma) com_id (sector_size * blocks)
 item_data f Identify = identity_of f.config f.settings
 item_data f (ReadLog pages dma) = device_log f.config f.settings pages
 item_data f _ = []

@@ -9,7 +9,7 @@ use Rattle.audit.specs.declared.rules.rule.Rule.TheVariants.{OutsideTable, TooLo
 use Rattle.tcg_calls.specs.Limits.{most_response}
 use Rattle.tcg_calls.specs.Statuses.{invalid_parameter, response_overflow}
 use Rattle.tcg_calls.specs.declared.call_shapes.ask.Ask.{Ask}
-use Rattle.tcg_calls.specs.declared.call_shapes.ask.Ask.TheVariants.{GetCells, GetBytes, SetCells, SetBytes, Authenticate, Activate, Revert, GenKey, RevertSp, Next, GetAcl, Other}
+use Rattle.tcg_calls.specs.declared.call_shapes.ask.Ask.TheVariants.{GetCells, GetBytes, SetCells, SetBytes, Authenticate, Activate, Revert, GenKey, RevertSp, Next, GetAcl, Random, Other}
 use Rattle.tcg_tokens.specs.Tree.{Tree}
 use Rattle.tcg_tokens.specs.Message.{message}
 use Rattle.transactions.specs.declared.change.SessionId.{SessionId}
@@ -46,15 +46,15 @@ pub judged-as : (x y : Judgement) (session : SessionId) (r : Result Outcome Meth
 judged-as x y session r s t l m is h = subst (λ j. IfOk r (λ out. Fulfils (outcome_in s session j) out s t l m)) is h
 
 -- a Get of bytes within the table, and of no more than a response carries
-pub bytes-told : (byte : ℕ → ℕ) (size first last : ℕ) (to : Option ℕ) (values : List Tree) → last_row size to ≡ last → (size == 0) ≡ false → nat_le size last ≡ false → nat_lt last first ≡ false → nat_lt most_response (last + 1 - first) ≡ false
-    → values ≡ bytes_between byte first last → gives values ≡ bytes_given byte size first to
-bytes-told byte size first last to values is some below above few same =
-    ap gives same
-    ∙ sym (ap (rows_given byte size first) is
-    ∙ ap (λ b. if b || (nat_le size last || nat_lt last first) then Refuses invalid_parameter OutsideTable else (if nat_lt most_response (last + 1 - first) then Refuses response_overflow TooLong else gives (bytes_between byte first last))) some
-    ∙ ap (λ b. if b || nat_lt last first then Refuses invalid_parameter OutsideTable else (if nat_lt most_response (last + 1 - first) then Refuses response_overflow TooLong else gives (bytes_between byte first last))) below
-    ∙ ap (λ b. if b then Refuses invalid_parameter OutsideTable else (if nat_lt most_response (last + 1 - first) then Refuses response_overflow TooLong else gives (bytes_between byte first last))) above
-    ∙ ap (λ b. if b then Refuses response_overflow TooLong else gives (bytes_between byte first last)) few)
+pub bytes-told : (room : ℕ) (byte : ℕ → ℕ) (size first last : ℕ) (to : Option ℕ) (values : List Tree) → last_row size to ≡ last → (size == 0) ≡ false → nat_le size last ≡ false → nat_lt last first ≡ false → nat_lt room (last + 1 - first) ≡ false
+    → values ≡ bytes_between byte first last → gives room values ≡ bytes_given room byte size first to
+bytes-told room byte size first last to values is some below above few same =
+    ap (gives room) same
+    ∙ sym (ap (rows_given room byte size first) is
+    ∙ ap (λ b. if b || (nat_le size last || nat_lt last first) then Refuses invalid_parameter OutsideTable else (if nat_lt room (last + 1 - first) then Refuses response_overflow TooLong else gives room (bytes_between byte first last))) some
+    ∙ ap (λ b. if b || nat_lt last first then Refuses invalid_parameter OutsideTable else (if nat_lt room (last + 1 - first) then Refuses response_overflow TooLong else gives room (bytes_between byte first last))) below
+    ∙ ap (λ b. if b then Refuses invalid_parameter OutsideTable else (if nat_lt room (last + 1 - first) then Refuses response_overflow TooLong else gives room (bytes_between byte first last))) above
+    ∙ ap (λ b. if b then Refuses response_overflow TooLong else gives room (bytes_between byte first last)) few)
 
 -- what may have changed something does not tell that nothing changed
 pub changed : {A : Type 0} (out : Outcome) → out.changes ≡ true → out.changes ≡ false → A
@@ -66,30 +66,30 @@ pub set-made : (x : Result Setting Rule) (set : Setting) (session : SessionId) (
 set-made x set session out s t l is can answer denied rule erases changes store =
     subst (λ y. Fulfils (outcome_in s session (makes y)) out s t l l) (sym is)
     (record {
-      met = record { answer = answer; denied = denied; rule = rule; erases = erases; store = (can, store); sessions = record { next = refl; at = λ n. refl }; block = refl };
+      met = record { answer = answer; denied = denied; rule = rule; erases = erases; store = (can, store); sessions = record { next = refl; at = λ n. refl }; beside = refl };
       unchanged = λ h. changed out changes h;
     })
 
 -- an attempt
 pub attempts : (authority : Uid) (pin : List ℕ) (session : SessionId) (out : Outcome) (s t : Stored) (l m : Live) → AreOnOwnSps l.sessions → (live_holder l session ≡ None → ⊥)
-    → message out.reply ≡ attempt_reply (attempt l.block s session.sp authority pin) → out.denied ≡ attempt_denied session.sp authority (attempt l.block s session.sp authority pin) → out.rule ≡ None → out.erases ≡ no_sectors
-    → (out.changes ≡ false → t ≡ s) → t ≡ after_attempt session.sp authority (attempt l.block s session.sp authority pin) s
-    → m.next ≡ l.next → ((n : ℕ) → session_at m n ≡ (if session.tsn == n then gaining_if (rows_in_force s) authority (attempt l.block s session.sp authority pin) (session_at l n) else session_at l n))
-    → m.block ≡ l.block → Fulfils (outcome_in s session (Attempts l.block authority pin)) out s t l m
-attempts authority pin session out s t l m apart lives answer denied rule erases unchanged store next points block =
-    let x : Option AttemptFailure = attempt l.block s session.sp authority pin in
+    → message out.reply ≡ attempt_reply (attempt l.beside.block s session.sp authority pin) → out.denied ≡ attempt_denied session.sp authority (attempt l.beside.block s session.sp authority pin) → out.rule ≡ None → out.erases ≡ no_sectors
+    → (out.changes ≡ false → t ≡ s) → t ≡ after_attempt session.sp authority (attempt l.beside.block s session.sp authority pin) s
+    → m.next ≡ l.next → ((n : ℕ) → session_at m n ≡ (if session.tsn == n then gaining_if (rows_in_force s) authority (attempt l.beside.block s session.sp authority pin) (session_at l n) else session_at l n))
+    → m.beside ≡ l.beside → Fulfils (outcome_in s session (Attempts l.beside.block authority pin)) out s t l m
+attempts authority pin session out s t l m apart lives answer denied rule erases unchanged store next points beside =
+    let x : Option AttemptFailure = attempt l.beside.block s session.sp authority pin in
     record {
       met = record {
         answer = answer;
         denied = denied;
         rule = rule;
         erases = erases;
-        store = subst (λ (u : Stored). StoresAs (outcome_in s session (Attempts l.block authority pin)).deed s u) (sym store) (attempt-stores s session.sp authority x);
+        store = subst (λ (u : Stored). StoresAs (outcome_in s session (Attempts l.beside.block authority pin)).deed s u) (sym store) (attempt-stores s session.sp authority x);
         sessions = record {
           next = next;
           at = λ n. points n ∙ gained-at (rows_in_force s) session authority x n (session_at l n) (alone-at l session apart lives n);
         };
-        block = block;
+        beside = beside;
       };
       unchanged = unchanged;
     }
@@ -110,6 +110,7 @@ set-is its object GenKey h = cc
 set-is its object (RevertSp keep) h = cc
 set-is its object (Next after count) h = cc
 set-is its object (GetAcl about what) h = cc
+set-is its object (Random count) h = cc
 set-is its object Other h = cc
 
 pub activate-is : (ask : Ask) → handles handlers.Activate ask ≡ true → ask ≡ Activate
@@ -124,6 +125,7 @@ activate-is GenKey h = cc
 activate-is (RevertSp keep) h = cc
 activate-is (Next after count) h = cc
 activate-is (GetAcl about what) h = cc
+activate-is (Random count) h = cc
 activate-is Other h = cc
 
 pub gen-key-is : (ask : Ask) → handles handlers.GenKey ask ≡ true → ask ≡ GenKey
@@ -138,4 +140,5 @@ gen-key-is Revert h = cc
 gen-key-is (RevertSp keep) h = cc
 gen-key-is (Next after count) h = cc
 gen-key-is (GetAcl about what) h = cc
+gen-key-is (Random count) h = cc
 gen-key-is Other h = cc

@@ -2,7 +2,7 @@
 use Rattle.std.proofs.Common.{◌≡◌, ◌==◌, ◌&&◌, ◌||◌, ◌-◌, ◌^◌, ℕ, Bool, true, false, List, [], ◌∷◌, Option, None, Some, is_some, option_map, refl, ap, sym, subst, ◌∙◌, if◌then◌else◌, inl, inr}
 use Rattle.basics.specs.declared.profile.Profile.{Profile}
 use Rattle.basics.specs.declared.profile.Profile.TheVariants.{Base, Field, Opal}
-use Rattle.sp_cells.specs.Names.{uid, none, col, get, set, authenticate, activate, revert, gen_key, revert_sp, next, get_acl}
+use Rattle.sp_cells.specs.Names.{uid, none, col, get, set, authenticate, activate, revert, gen_key, revert_sp, next, get_acl, random}
 use Rattle.std.specs.List.{list_all, list_any}
 use Rattle.std.proofs.lemmas.Bool.Decides.{eqb_tells}
 use Rattle.sp_cells.specs.declared.names.Uid.{Uid}
@@ -19,10 +19,10 @@ use Rattle.sp_tables.specs.Factory.{admin_factory, locking_factory, admin_sps, a
 use Rattle.ace_eval.specs.Access.{Grant, acl_in, this_sp_grants, owner_grants, label_grants, removal_grants, authority_grants, fixed_ace_gets, user_ace_grants, range_get_ace_grants, gen_key_ace_grants, read_locked_ace_grants, write_locked_ace_grants, done_ace_grants, pin_grants, range_get_grants, range_set_grants, mbr_grants, info_grants, datastore_grants, key_grants, access_list, own_grants, listed_grants, told_grants, method_grants, maker_grants, name_grants, mode_grants}
 use Rattle.tcg_tokens.specs.Tree.{Tree, number, bytes, list, named}
 use Rattle.tcg_calls.specs.declared.call_shapes.ask.Ask.{Ask}
-use Rattle.tcg_calls.specs.declared.call_shapes.ask.Ask.TheVariants.{GetCells, GetBytes, SetCells, SetBytes, Authenticate, Activate, Revert, GenKey, RevertSp, Next, GetAcl, Other}
+use Rattle.tcg_calls.specs.declared.call_shapes.ask.Ask.TheVariants.{GetCells, GetBytes, SetCells, SetBytes, Authenticate, Activate, Revert, GenKey, RevertSp, Next, GetAcl, Random, Other}
 use Rattle.tcg_calls.specs.Named.{list_in, value_of, options, number_or, number_if_any, bytes_or_empty, assignments}
 use Rattle.tcg_calls.specs.Parameters.{start_row_parameter, end_row_parameter, start_column_parameter, end_column_parameter, where_parameter, values_parameter, next_where_parameter, next_count_parameter, proof_parameter, keep_global_range_key_parameter}
-use Rattle.tcg_calls.specs.Asks.{uid_of, uid_in, is_byte_table, cellblock, columns_between, columns_asked_in, is_ordered, rows_between, rows_in, cells_of, cells_to_set, cells_in, bytes_to_set, bytes_in, proof_of, proof_in, attempt_in, without_arguments, get_of, set_of, keep_of, keep_in, row_if_any, rows_asked_behind, next_in, line_asked, get_acl_of, other_ask_of, ask_of}
+use Rattle.tcg_calls.specs.Asks.{uid_of, uid_in, is_byte_table, cellblock, columns_between, columns_asked_in, is_ordered, rows_between, rows_in, cells_of, cells_to_set, cells_in, bytes_to_set, bytes_in, proof_of, proof_in, attempt_in, without_arguments, get_of, set_of, keep_of, keep_in, row_if_any, rows_asked_behind, next_in, line_asked, get_acl_of, random_of, other_ask_of, ask_of}
 use Rattle.methods.specs.declared.kinds.Kind.{Kind}
 use Rattle.methods.specs.declared.kinds.Kind.TheVariants as kinds
 use Rattle.methods.specs.Kinds.{kind_of}
@@ -48,6 +48,7 @@ sketch GenKey = GenKey
 sketch (RevertSp keep) = RevertSp false
 sketch (Next after count) = Next None None
 sketch (GetAcl about what) = GetAcl some_uid some_uid
+sketch (Random count) = Random 0
 sketch Other = Other
 
 abbrev sketch_of_other : Profile → Uid → Ask
@@ -59,6 +60,7 @@ sketch_of_other Field method =
 sketch_of_other Opal method =
     if method.0 == next.0 then Next None None else
     if method.0 == get_acl.0 then GetAcl some_uid some_uid else
+    if method.0 == random.0 then Random 0 else
     if method.0 == gen_key.0 then GenKey else
     if method.0 == revert_sp.0 then RevertSp false else
     Other
@@ -86,6 +88,7 @@ same_shape (Some kinds.ThisSp) GenKey = refl
 same_shape (Some kinds.ThisSp) (RevertSp keep) = refl
 same_shape (Some kinds.ThisSp) (Next after count) = refl
 same_shape (Some kinds.ThisSp) (GetAcl about what) = refl
+same_shape (Some kinds.ThisSp) (Random count) = refl
 same_shape (Some kinds.ThisSp) Other = refl
 same_shape (Some kinds.Sp) (GetCells f l) = refl
 same_shape (Some kinds.Sp) (GetBytes f l) = refl
@@ -98,6 +101,7 @@ same_shape (Some kinds.Sp) GenKey = refl
 same_shape (Some kinds.Sp) (RevertSp keep) = refl
 same_shape (Some kinds.Sp) (Next after count) = refl
 same_shape (Some kinds.Sp) (GetAcl about what) = refl
+same_shape (Some kinds.Sp) (Random count) = refl
 same_shape (Some kinds.Sp) Other = refl
 same_shape (Some kinds.Authority) (GetCells f l) = refl
 same_shape (Some kinds.Authority) (GetBytes f l) = refl
@@ -110,6 +114,7 @@ same_shape (Some kinds.Authority) GenKey = refl
 same_shape (Some kinds.Authority) (RevertSp keep) = refl
 same_shape (Some kinds.Authority) (Next after count) = refl
 same_shape (Some kinds.Authority) (GetAcl about what) = refl
+same_shape (Some kinds.Authority) (Random count) = refl
 same_shape (Some kinds.Authority) Other = refl
 same_shape (Some kinds.CPin) (GetCells f l) = refl
 same_shape (Some kinds.CPin) (GetBytes f l) = refl
@@ -122,6 +127,7 @@ same_shape (Some kinds.CPin) GenKey = refl
 same_shape (Some kinds.CPin) (RevertSp keep) = refl
 same_shape (Some kinds.CPin) (Next after count) = refl
 same_shape (Some kinds.CPin) (GetAcl about what) = refl
+same_shape (Some kinds.CPin) (Random count) = refl
 same_shape (Some kinds.CPin) Other = refl
 same_shape (Some kinds.Ace) (GetCells f l) = refl
 same_shape (Some kinds.Ace) (GetBytes f l) = refl
@@ -134,6 +140,7 @@ same_shape (Some kinds.Ace) GenKey = refl
 same_shape (Some kinds.Ace) (RevertSp keep) = refl
 same_shape (Some kinds.Ace) (Next after count) = refl
 same_shape (Some kinds.Ace) (GetAcl about what) = refl
+same_shape (Some kinds.Ace) (Random count) = refl
 same_shape (Some kinds.Ace) Other = refl
 same_shape (Some kinds.Locking) (GetCells f l) = refl
 same_shape (Some kinds.Locking) (GetBytes f l) = refl
@@ -146,6 +153,7 @@ same_shape (Some kinds.Locking) GenKey = refl
 same_shape (Some kinds.Locking) (RevertSp keep) = refl
 same_shape (Some kinds.Locking) (Next after count) = refl
 same_shape (Some kinds.Locking) (GetAcl about what) = refl
+same_shape (Some kinds.Locking) (Random count) = refl
 same_shape (Some kinds.Locking) Other = refl
 same_shape (Some kinds.MbrControl) (GetCells f l) = refl
 same_shape (Some kinds.MbrControl) (GetBytes f l) = refl
@@ -158,6 +166,7 @@ same_shape (Some kinds.MbrControl) GenKey = refl
 same_shape (Some kinds.MbrControl) (RevertSp keep) = refl
 same_shape (Some kinds.MbrControl) (Next after count) = refl
 same_shape (Some kinds.MbrControl) (GetAcl about what) = refl
+same_shape (Some kinds.MbrControl) (Random count) = refl
 same_shape (Some kinds.MbrControl) Other = refl
 same_shape (Some kinds.TperInfo) (GetCells f l) = refl
 same_shape (Some kinds.TperInfo) (GetBytes f l) = refl
@@ -170,6 +179,7 @@ same_shape (Some kinds.TperInfo) GenKey = refl
 same_shape (Some kinds.TperInfo) (RevertSp keep) = refl
 same_shape (Some kinds.TperInfo) (Next after count) = refl
 same_shape (Some kinds.TperInfo) (GetAcl about what) = refl
+same_shape (Some kinds.TperInfo) (Random count) = refl
 same_shape (Some kinds.TperInfo) Other = refl
 same_shape (Some kinds.LockingInfo) (GetCells f l) = refl
 same_shape (Some kinds.LockingInfo) (GetBytes f l) = refl
@@ -182,6 +192,7 @@ same_shape (Some kinds.LockingInfo) GenKey = refl
 same_shape (Some kinds.LockingInfo) (RevertSp keep) = refl
 same_shape (Some kinds.LockingInfo) (Next after count) = refl
 same_shape (Some kinds.LockingInfo) (GetAcl about what) = refl
+same_shape (Some kinds.LockingInfo) (Random count) = refl
 same_shape (Some kinds.LockingInfo) Other = refl
 same_shape (Some kinds.Table) (GetCells f l) = refl
 same_shape (Some kinds.Table) (GetBytes f l) = refl
@@ -194,6 +205,7 @@ same_shape (Some kinds.Table) GenKey = refl
 same_shape (Some kinds.Table) (RevertSp keep) = refl
 same_shape (Some kinds.Table) (Next after count) = refl
 same_shape (Some kinds.Table) (GetAcl about what) = refl
+same_shape (Some kinds.Table) (Random count) = refl
 same_shape (Some kinds.Table) Other = refl
 same_shape (Some kinds.MbrTable) (GetCells f l) = refl
 same_shape (Some kinds.MbrTable) (GetBytes f l) = refl
@@ -206,6 +218,7 @@ same_shape (Some kinds.MbrTable) GenKey = refl
 same_shape (Some kinds.MbrTable) (RevertSp keep) = refl
 same_shape (Some kinds.MbrTable) (Next after count) = refl
 same_shape (Some kinds.MbrTable) (GetAcl about what) = refl
+same_shape (Some kinds.MbrTable) (Random count) = refl
 same_shape (Some kinds.MbrTable) Other = refl
 same_shape (Some kinds.DataStore) (GetCells f l) = refl
 same_shape (Some kinds.DataStore) (GetBytes f l) = refl
@@ -218,6 +231,7 @@ same_shape (Some kinds.DataStore) GenKey = refl
 same_shape (Some kinds.DataStore) (RevertSp keep) = refl
 same_shape (Some kinds.DataStore) (Next after count) = refl
 same_shape (Some kinds.DataStore) (GetAcl about what) = refl
+same_shape (Some kinds.DataStore) (Random count) = refl
 same_shape (Some kinds.DataStore) Other = refl
 same_shape (Some kinds.DataRemoval) (GetCells f l) = refl
 same_shape (Some kinds.DataRemoval) (GetBytes f l) = refl
@@ -230,6 +244,7 @@ same_shape (Some kinds.DataRemoval) GenKey = refl
 same_shape (Some kinds.DataRemoval) (RevertSp keep) = refl
 same_shape (Some kinds.DataRemoval) (Next after count) = refl
 same_shape (Some kinds.DataRemoval) (GetAcl about what) = refl
+same_shape (Some kinds.DataRemoval) (Random count) = refl
 same_shape (Some kinds.DataRemoval) Other = refl
 same_shape (Some kinds.Key) (GetCells f l) = refl
 same_shape (Some kinds.Key) (GetBytes f l) = refl
@@ -242,6 +257,7 @@ same_shape (Some kinds.Key) GenKey = refl
 same_shape (Some kinds.Key) (RevertSp keep) = refl
 same_shape (Some kinds.Key) (Next after count) = refl
 same_shape (Some kinds.Key) (GetAcl about what) = refl
+same_shape (Some kinds.Key) (Random count) = refl
 same_shape (Some kinds.Key) Other = refl
 same_shape (Some kinds.WholeTable) (GetCells f l) = refl
 same_shape (Some kinds.WholeTable) (GetBytes f l) = refl
@@ -254,6 +270,7 @@ same_shape (Some kinds.WholeTable) GenKey = refl
 same_shape (Some kinds.WholeTable) (RevertSp keep) = refl
 same_shape (Some kinds.WholeTable) (Next after count) = refl
 same_shape (Some kinds.WholeTable) (GetAcl about what) = refl
+same_shape (Some kinds.WholeTable) (Random count) = refl
 same_shape (Some kinds.WholeTable) Other = refl
 same_shape (Some kinds.AccessControl) (GetCells f l) = refl
 same_shape (Some kinds.AccessControl) (GetBytes f l) = refl
@@ -266,6 +283,7 @@ same_shape (Some kinds.AccessControl) GenKey = refl
 same_shape (Some kinds.AccessControl) (RevertSp keep) = refl
 same_shape (Some kinds.AccessControl) (Next after count) = refl
 same_shape (Some kinds.AccessControl) (GetAcl about what) = refl
+same_shape (Some kinds.AccessControl) (Random count) = refl
 same_shape (Some kinds.AccessControl) Other = refl
 same_shape (Some kinds.ObjectTable) (GetCells f l) = refl
 same_shape (Some kinds.ObjectTable) (GetBytes f l) = refl
@@ -278,6 +296,7 @@ same_shape (Some kinds.ObjectTable) GenKey = refl
 same_shape (Some kinds.ObjectTable) (RevertSp keep) = refl
 same_shape (Some kinds.ObjectTable) (Next after count) = refl
 same_shape (Some kinds.ObjectTable) (GetAcl about what) = refl
+same_shape (Some kinds.ObjectTable) (Random count) = refl
 same_shape (Some kinds.ObjectTable) Other = refl
 same_shape (Some kinds.SpInfo) (GetCells f l) = refl
 same_shape (Some kinds.SpInfo) (GetBytes f l) = refl
@@ -290,6 +309,7 @@ same_shape (Some kinds.SpInfo) GenKey = refl
 same_shape (Some kinds.SpInfo) (RevertSp keep) = refl
 same_shape (Some kinds.SpInfo) (Next after count) = refl
 same_shape (Some kinds.SpInfo) (GetAcl about what) = refl
+same_shape (Some kinds.SpInfo) (Random count) = refl
 same_shape (Some kinds.SpInfo) Other = refl
 same_shape (Some kinds.SpTemplates) (GetCells f l) = refl
 same_shape (Some kinds.SpTemplates) (GetBytes f l) = refl
@@ -302,6 +322,7 @@ same_shape (Some kinds.SpTemplates) GenKey = refl
 same_shape (Some kinds.SpTemplates) (RevertSp keep) = refl
 same_shape (Some kinds.SpTemplates) (Next after count) = refl
 same_shape (Some kinds.SpTemplates) (GetAcl about what) = refl
+same_shape (Some kinds.SpTemplates) (Random count) = refl
 same_shape (Some kinds.SpTemplates) Other = refl
 same_shape (Some kinds.MethodId) (GetCells f l) = refl
 same_shape (Some kinds.MethodId) (GetBytes f l) = refl
@@ -314,6 +335,7 @@ same_shape (Some kinds.MethodId) GenKey = refl
 same_shape (Some kinds.MethodId) (RevertSp keep) = refl
 same_shape (Some kinds.MethodId) (Next after count) = refl
 same_shape (Some kinds.MethodId) (GetAcl about what) = refl
+same_shape (Some kinds.MethodId) (Random count) = refl
 same_shape (Some kinds.MethodId) Other = refl
 same_shape (Some kinds.SecretProtect) (GetCells f l) = refl
 same_shape (Some kinds.SecretProtect) (GetBytes f l) = refl
@@ -326,6 +348,7 @@ same_shape (Some kinds.SecretProtect) GenKey = refl
 same_shape (Some kinds.SecretProtect) (RevertSp keep) = refl
 same_shape (Some kinds.SecretProtect) (Next after count) = refl
 same_shape (Some kinds.SecretProtect) (GetAcl about what) = refl
+same_shape (Some kinds.SecretProtect) (Random count) = refl
 same_shape (Some kinds.SecretProtect) Other = refl
 same_shape (Some kinds.Template) (GetCells f l) = refl
 same_shape (Some kinds.Template) (GetBytes f l) = refl
@@ -338,6 +361,7 @@ same_shape (Some kinds.Template) GenKey = refl
 same_shape (Some kinds.Template) (RevertSp keep) = refl
 same_shape (Some kinds.Template) (Next after count) = refl
 same_shape (Some kinds.Template) (GetAcl about what) = refl
+same_shape (Some kinds.Template) (Random count) = refl
 same_shape (Some kinds.Template) Other = refl
 
 -- what a call asks has the shape that its method wants
@@ -459,6 +483,17 @@ acl_fits (object ∷ []) = tt
 acl_fits (object ∷ method ∷ []) = line_fits (uid_in object) (uid_in method)
 acl_fits (object ∷ method ∷ t ∷ ts) = tt
 
+random_fits : (args : List Tree) → Fits (random_of args) (Random 0)
+random_fits [] = tt
+random_fits (number count ∷ []) = refl
+random_fits (bytes b ∷ []) = tt
+random_fits (list ts ∷ []) = tt
+random_fits (named n v ∷ []) = tt
+random_fits (number count ∷ t ∷ ts) = tt
+random_fits (bytes b ∷ t ∷ ts) = tt
+random_fits (list us ∷ t ∷ ts) = tt
+random_fits (named n v ∷ t ∷ ts) = tt
+
 other_fits : (profile : Profile) (method : Uid) (args : List Tree) → Fits (other_ask_of profile method args) (sketch_of_other profile method)
 other_fits Base method args = refl
 other_fits Field method args =
@@ -467,8 +502,9 @@ other_fits Field method args =
 other_fits Opal method args =
     either (method.0 == next.0) _ _ _ _ (next_fits (options (next_where_parameter ∷ next_count_parameter ∷ []) args))
     (either (method.0 == get_acl.0) _ _ _ _ (acl_fits args)
+    (either (method.0 == random.0) _ _ _ _ (random_fits args)
     (either (method.0 == gen_key.0) _ _ _ _ (without_fits GenKey args)
-    (either (method.0 == revert_sp.0) _ _ _ _ (keep_fits (options (keep_global_range_key_parameter ∷ []) args)) refl)))
+    (either (method.0 == revert_sp.0) _ _ _ _ (keep_fits (options (keep_global_range_key_parameter ∷ []) args)) refl))))
 
 asked_fits : (profile : Profile) (sp : Sp) (object method : Uid) (args : List Tree) → Fits (ask_of profile sp object method args) (sketch_of profile sp object method)
 asked_fits profile sp object method args =

@@ -17,7 +17,7 @@ use Rattle.transactions.specs.Bytes.{bytes_from}
 use Rattle.methods.specs.Effects.{fault_of_set, has_set, is_told, stored_after, unless_fault, held_of}
 use Rattle.sessions.specs.Made.{part_with, set_stored}
 use Rattle.methods.specs.Judgement.{fault_by, valid, to_set}
-use Rattle.trusted_cmds.specs.declared.block.SidBlock.TheVariants.{Free}
+use Rattle.sessions.specs.Beside.{new_beside}
 use Rattle.methods.specs.Calls.{standing_on}
 use Rattle.methods.proofs.FaultLemmas.{fault-alike}
 use Rattle.tcg_calls.specs.Statuses.{success}
@@ -88,9 +88,9 @@ read_setting s session object ask v change read seen =
     ∙ ap (λ (config : Config). setting config.profile session.sp (sizes_in config) object (kind_of session.sp object) ask) (config_seen session.sp session.tsn s)
 
 -- and what is none by what it sees is none by the store
-pub none_setting : (s : Stored) (session : SessionId) (object : Uid) (ask : Ask) (v : Sight) (o : Option Change) → o ≡ None → option_map setting_seen o ≡ setting v.config.profile session.sp (sizes_in v.config) object (kind_of session.sp object) ask → v ≡ sight_of s session → to_set (standing_on Free s session []) object ask ≡ Err WrongValue
+pub none_setting : (s : Stored) (session : SessionId) (object : Uid) (ask : Ask) (v : Sight) (o : Option Change) → o ≡ None → option_map setting_seen o ≡ setting v.config.profile session.sp (sizes_in v.config) object (kind_of session.sp object) ask → v ≡ sight_of s session → to_set (standing_on new_beside 0 s session []) object ask ≡ Err WrongValue
 none_setting s session object ask v o none read seen =
-    ap (valid (standing_on Free s session []))
+    ap (valid (standing_on new_beside 0 s session []))
     (sym (sym (ap (option_map setting_seen) none)
     ∙ read
     ∙ ap (λ (w : Sight). setting w.config.profile session.sp (sizes_in w.config) object (kind_of session.sp object) ask) seen
@@ -175,15 +175,15 @@ pub stored_refused : (f : SetError) (o : Option SetError) (sp : Sp) (change : Ch
 stored_refused f o sp change s e = ap (λ x. stored_after x sp change s) (sym e)
 
 -- what is set by a Set whose values are read: its setting, unless the change has a fault
-to_set-read : (s : Stored) (session : SessionId) (object : Uid) (ask : Ask) (change : Change) → has_set (kind_of session.sp object) ≡ true → Some (setting_seen change) ≡ setting s.config.profile session.sp (sizes_in s.config) object (kind_of session.sp object) ask → to_set (standing_on Free s session []) object ask ≡ unless_fault (fault_of_set s session change) (setting_seen change)
+to_set-read : (s : Stored) (session : SessionId) (object : Uid) (ask : Ask) (change : Change) → has_set (kind_of session.sp object) ≡ true → Some (setting_seen change) ≡ setting s.config.profile session.sp (sizes_in s.config) object (kind_of session.sp object) ask → to_set (standing_on new_beside 0 s session []) object ask ≡ unless_fault (fault_of_set s session change) (setting_seen change)
 to_set-read s session object ask change h e =
-    sym (ap (valid (standing_on Free s session [])) e)
+    sym (ap (valid (standing_on new_beside 0 s session [])) e)
     ∙ ap (λ o. unless_fault o (setting_seen change)) (sym (fault_as s session object ask change h e))
 
-pub to_set-none : (s : Stored) (session : SessionId) (object : Uid) (ask : Ask) (change : Change) (f : SetError) → has_set (kind_of session.sp object) ≡ true → Some (setting_seen change) ≡ setting s.config.profile session.sp (sizes_in s.config) object (kind_of session.sp object) ask → Some f ≡ fault_of_set s session change → to_set (standing_on Free s session []) object ask ≡ Err (NotSet f)
+pub to_set-none : (s : Stored) (session : SessionId) (object : Uid) (ask : Ask) (change : Change) (f : SetError) → has_set (kind_of session.sp object) ≡ true → Some (setting_seen change) ≡ setting s.config.profile session.sp (sizes_in s.config) object (kind_of session.sp object) ask → Some f ≡ fault_of_set s session change → to_set (standing_on new_beside 0 s session []) object ask ≡ Err (NotSet f)
 to_set-none s session object ask change f h e made = to_set-read s session object ask change h e ∙ ap (λ o. unless_fault o (setting_seen change)) (sym made)
 
-pub to_set-some : (s : Stored) (session : SessionId) (object : Uid) (ask : Ask) (change : Change) → has_set (kind_of session.sp object) ≡ true → Some (setting_seen change) ≡ setting s.config.profile session.sp (sizes_in s.config) object (kind_of session.sp object) ask → None ≡ fault_of_set s session change → to_set (standing_on Free s session []) object ask ≡ Ok (setting_seen change)
+pub to_set-some : (s : Stored) (session : SessionId) (object : Uid) (ask : Ask) (change : Change) → has_set (kind_of session.sp object) ≡ true → Some (setting_seen change) ≡ setting s.config.profile session.sp (sizes_in s.config) object (kind_of session.sp object) ask → None ≡ fault_of_set s session change → to_set (standing_on new_beside 0 s session []) object ask ≡ Ok (setting_seen change)
 to_set-some s session object ask change h e made = to_set-read s session object ask change h e ∙ ap (λ o. unless_fault o (setting_seen change)) (sym made)
 
 -- the store that it leaves

@@ -19,7 +19,7 @@ use Rattle.sp_cells.specs.declared.error.SetError.TheVariants as faults
 use Rattle.sp_tables.specs.Looks.{fault_seen}
 use Rattle.sp_tables.specs.Tries.{names_tries}
 use Rattle.tcg_calls.specs.declared.call_shapes.ask.Ask.{Ask}
-use Rattle.tcg_calls.specs.declared.call_shapes.ask.Ask.TheVariants.{GetCells, GetBytes, SetCells, SetBytes, Authenticate, Activate, Revert, GenKey, RevertSp, Next, GetAcl, Other}
+use Rattle.tcg_calls.specs.declared.call_shapes.ask.Ask.TheVariants.{GetCells, GetBytes, SetCells, SetBytes, Authenticate, Activate, Revert, GenKey, RevertSp, Next, GetAcl, Random, Other}
 use Rattle.sessions.specs.Deeds.{Setting, cells_set, bytes_set}
 use Rattle.sessions.specs.Made.{is_within, CanSet}
 use Rattle.methods.specs.declared.kinds.Kind.{Kind}
@@ -53,6 +53,7 @@ cells-fit sizes sp object types GenKey = tt
 cells-fit sizes sp object types (RevertSp keep) = tt
 cells-fit sizes sp object types (Next after count) = tt
 cells-fit sizes sp object types (GetAcl about what) = tt
+cells-fit sizes sp object types (Random count) = tt
 cells-fit sizes sp object types Other = tt
 
 le-of : (a b : ℕ) → nat_le a b ≡ true → a ≤ b
@@ -87,6 +88,7 @@ bytes-fit sizes Locking table GenKey = tt
 bytes-fit sizes Locking table (RevertSp keep) = tt
 bytes-fit sizes Locking table (Next after count) = tt
 bytes-fit sizes Locking table (GetAcl about what) = tt
+bytes-fit sizes Locking table (Random count) = tt
 bytes-fit sizes Locking table Other = tt
 
 setting-fits : (profile : Profile) (sizes : TableSizes) (sp : Sp) (object : Uid) (kind : Option Kind) (ask : Ask) → BytesFit sizes sp (setting profile sp sizes object kind ask)

@@ -14,7 +14,7 @@ use Rattle.sp_cells.specs.declared.values.ColumnType.{ColumnType}
 use Rattle.transactions.specs.declared.change.Change.{Change}
 use Rattle.transactions.specs.declared.change.Change.TheVariants.{Cells, Mbr}
 use Rattle.tcg_calls.specs.declared.call_shapes.ask.Ask.{Ask}
-use Rattle.tcg_calls.specs.declared.call_shapes.ask.Ask.TheVariants.{GetCells, GetBytes, SetCells, SetBytes, Authenticate, Activate, Revert, GenKey, RevertSp, Next, GetAcl, Other}
+use Rattle.tcg_calls.specs.declared.call_shapes.ask.Ask.TheVariants.{GetCells, GetBytes, SetCells, SetBytes, Authenticate, Activate, Revert, GenKey, RevertSp, Next, GetAcl, Random, Other}
 use Rattle.methods.specs.declared.kinds.Kind.{Kind}
 use Rattle.methods.specs.declared.kinds.Kind.TheVariants as kinds
 use Rattle.methods.specs.Kinds.{kind_of}
@@ -41,6 +41,7 @@ asked_there object o cells types GenKey e = cc
 asked_there object o cells types (RevertSp keep) e = cc
 asked_there object o cells types (Next after count) e = cc
 asked_there object o cells types (GetAcl about what) e = cc
+asked_there object o cells types (Random count) e = cc
 asked_there object o cells types Other e = cc
 
 -- Set of columns sets no byte
@@ -60,6 +61,7 @@ no_bytes object at bs types GenKey e = cc
 no_bytes object at bs types (RevertSp keep) e = cc
 no_bytes object at bs types (Next after count) e = cc
 no_bytes object at bs types (GetAcl about what) e = cc
+no_bytes object at bs types (Random count) e = cc
 no_bytes object at bs types Other e = cc
 
 -- Set of bytes sets no cell
@@ -80,6 +82,7 @@ no_cells o cells Locking n table GenKey e = cc
 no_cells o cells Locking n table (RevertSp keep) e = cc
 no_cells o cells Locking n table (Next after count) e = cc
 no_cells o cells Locking n table (GetAcl about what) e = cc
+no_cells o cells Locking n table (Random count) e = cc
 no_cells o cells Locking n table Other e = cc
 
 cells_of_object : (profile : Profile) (sp : Sp) (n : TableSizes) (object o : Uid) (cells : List (Column × Cell)) (kind : Option Kind) (ask : Ask) → setting profile sp n object kind ask ≡ Some (cells_set o cells) → object ≡ o

@@ -17,7 +17,7 @@ use Rattle.sp_cells.specs.Names.{col}
 use Rattle.sp_cells.specs.Values.{type_at}
 use Rattle.tcg_tokens.specs.Tree.{Tree}
 use Rattle.tcg_calls.specs.declared.call_shapes.ask.Ask.{Ask}
-use Rattle.tcg_calls.specs.declared.call_shapes.ask.Ask.TheVariants.{GetCells, GetBytes, SetCells, SetBytes, Authenticate, Activate, Revert, GenKey, RevertSp, Next, GetAcl, Other}
+use Rattle.tcg_calls.specs.declared.call_shapes.ask.Ask.TheVariants.{GetCells, GetBytes, SetCells, SetBytes, Authenticate, Activate, Revert, GenKey, RevertSp, Next, GetAcl, Random, Other}
 use Rattle.methods.specs.declared.kinds.Kind.{Kind}
 use Rattle.methods.specs.declared.kinds.Kind.TheVariants as kinds
 use Rattle.methods.specs.Kinds.{kind_of}
@@ -99,6 +99,7 @@ asked_there object target cells types GenKey is = absurd cc
 asked_there object target cells types (RevertSp keep) is = absurd cc
 asked_there object target cells types (Next after count) is = absurd cc
 asked_there object target cells types (GetAcl about what) is = absurd cc
+asked_there object target cells types (Random count) is = absurd cc
 asked_there object target cells types Other is = absurd cc
 
 set_there : (profile : Profile) (sp : Sp) (n : TableSizes) (object target : Uid) (cells : List (Column × Cell)) (kind : Option Kind) (ask : Ask) → setting profile sp n object kind ask ≡ Some (cells_set target cells) → SetsOnly object (set_columns_of profile kind) target cells

@@ -19,20 +19,21 @@ use Rattle.tcg_calls.specs.Asks.{ask_of, uid_of}
 use Rattle.tcg_calls.specs.Statuses.{success, not_authorized}
 use Rattle.sessions.specs.Answers.{rows_in_force}
 use Rattle.sessions.specs.Attempts.{attempt_failure as failure_of}
-use Rattle.sessions.specs.Deeds.{Unchanged, Changed, Sets, Activated, Reverted, Erased, Outcome, says, refuses, gains_of, tried}
-use Rattle.sessions.specs.Live.{Live}
+use Rattle.sessions.specs.Deeds.{Unchanged, Changed, Sets, Activated, Reverted, Erased, Drew, Outcome, says, refuses, gains_of, tried}
+use Rattle.sessions.specs.declared.beside.Beside.{Beside}
+use Rattle.sessions.specs.Live.{Live, session_room}
 use Rattle.sessions.specs.Made.{Meets}
 use Rattle.sessions.specs.Starts.{is_in_use}
-use Rattle.trusted_cmds.specs.declared.block.SidBlock.{SidBlock}
 use Rattle.methods.specs.declared.outcome.Outcome.{Outcome as Answered}
 use Rattle.methods.specs.Said.{reply_of, refusal_of, done, attempt_reply, attempt_denied}
 use Rattle.methods.specs.Effects.{held_in, seen_by, has_transaction}
+use Rattle.methods.specs.Random.{random_bytes}
 use Rattle.methods.specs.Erasures.{erased_by_revert, erased_by_key, erased_by_revert_sp}
-use Rattle.methods.specs.Judgement.{Standing, Judgement, Denies, Refuses, Gives, Makes, Attempts, Activates, Reverts, Erases, RevertsSp, judged}
+use Rattle.methods.specs.Judgement.{Standing, Judgement, Denies, Refuses, Gives, Draws, Makes, Attempts, Activates, Reverts, Erases, RevertsSp, judged}
 
--- what the rules ask of a session that holds these authorities, of what is kept
-abbrev pub standing_on : SidBlock → Stored → SessionId → List Uid → Standing
-standing_on block s session held = record {
+-- what the rules ask of a session that holds these authorities, and whose responses have so much room, of what is kept
+abbrev pub standing_on : Beside → ℕ → Stored → SessionId → List Uid → Standing
+standing_on beside room s session held = record {
   profile = s.config.profile;
   sectors = s.config.sectors;
   sizes = sizes_in s.config;
@@ -42,12 +43,16 @@ standing_on block s session held = record {
   newest = latest_look s session.sp;
   held = held;
   is_open = has_transaction s session;
-  block = block;
+  block = beside.block;
+  room = room;
+  random = random_bytes s.config.seed beside.drawn;
 }
 
 -- with those that it holds
 abbrev pub standing_in : Stored → Live → SessionId → Standing
-standing_in s live session = standing_on live.block s session (held_in live session)
+standing_in s live session =
+    standing_on live.beside (session_room s.config.profile live session) s session
+    (held_in live session)
 
 -- what comes of a call with these arguments, and of the call that a session sends
 abbrev pub judged_with : Stored → Live → SessionId → Uid → Uid → List Tree → Judgement
@@ -82,6 +87,7 @@ outcome_of rows sp (Denies why) = record {
 }
 outcome_of rows sp (Refuses status rule) = refuses (refusal_of status) rule
 outcome_of rows sp (Gives results) = says Unchanged (reply_of results success)
+outcome_of rows sp (Draws count results) = says (Drew count) (reply_of results success)
 outcome_of rows sp (Makes setting) = says (Changed sp (Sets setting)) done
 outcome_of rows sp (Attempts block authority pin) =
     tried_in rows sp authority (failure_of block rows sp authority pin)

@@ -15,7 +15,7 @@ use Rattle.transactions.specs.Stored.{Stored, part, at_part, part_set, is_open}
 use Rattle.transactions.specs.Changes.{fault_of_change}
 use Rattle.transactions.specs.Sights.{look_up, sight_of}
 use Rattle.tcg_calls.specs.declared.call_shapes.ask.Ask.{Ask}
-use Rattle.tcg_calls.specs.declared.call_shapes.ask.Ask.TheVariants.{GetCells, GetBytes, SetCells, SetBytes, Authenticate, Activate, Revert, GenKey, RevertSp, Next, GetAcl, Other}
+use Rattle.tcg_calls.specs.declared.call_shapes.ask.Ask.TheVariants.{GetCells, GetBytes, SetCells, SetBytes, Authenticate, Activate, Revert, GenKey, RevertSp, Next, GetAcl, Random, Other}
 use Rattle.sessions.specs.Live.{Live, Holder, session_at, holder_on}
 use Rattle.methods.specs.declared.kinds.Kind.{Kind}
 use Rattle.methods.specs.declared.kinds.Kind.TheVariants as kinds
@@ -52,6 +52,7 @@ has_ask (Some kinds.DataStore) (SetBytes at bytes) = true
 has_ask (Some kinds.DataRemoval) (GetCells first last) = true
 has_ask (Some kinds.DataRemoval) (SetCells ps) = true
 has_ask (Some kinds.ThisSp) (RevertSp keep) = true
+has_ask (Some kinds.ThisSp) (Random count) = true
 has_ask (Some kinds.Key) GenKey = true
 has_ask (Some kinds.Key) (GetCells first last) = true
 has_ask (Some kinds.WholeTable) (Next after count) = true
@@ -81,6 +82,7 @@ handles handlers.GenKey GenKey = true
 handles handlers.RevertSp (RevertSp keep) = true
 handles handlers.ListRows (Next after count) = true
 handles handlers.ReadAcl (GetAcl object method) = true
+handles handlers.Draw (Random count) = true
 handles _ _ = false
 
 -- what is asked, where the object's kind has it; else nothing that it knows

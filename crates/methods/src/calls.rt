@@ -11,8 +11,8 @@ ghost use Rattle.methods.specs.declared.outcome.MethodFault.TheVariants as fault
 use crate::cases::method_cases;
 use crate::grants::denied;
 use crate::kinds::{Handler, Kind, byte_table_of, kind_of};
-use crate::outcome::{self, MethodFault, Outcome, refused};
-use crate::{handlers, tables};
+use crate::outcome::{self, MethodFault, Outcome, refused, room_of};
+use crate::{handlers, random, tables};
 use ace_eval::Authorities;
 use audit::Why;
 use audit::rules::Rule;
@@ -70,7 +70,8 @@ fn perform(
             handlers::read_cells(alloc, store, sessions, session, object, *first, *last)
         }
         (Handler::ReadBytes, Ask::GetBytes { first, last }) => {
-            handlers::read_bytes(alloc, store, session, byte_table_of(kind), *first, *last)
+            let table = byte_table_of(kind);
+            handlers::read_bytes(alloc, store, sessions, session, table, *first, *last)
         }
         (Handler::WriteCells, Ask::SetCells(_)) | (Handler::WriteBytes, Ask::SetBytes { .. }) => {
             handlers::write(alloc, store, session, object, ask)
@@ -92,11 +93,16 @@ fn perform(
             handlers::revert_sp(alloc, store, sessions, session, *keep)
         }
         (Handler::ListRows, Ask::Next { after, count }) => {
-            tables::next(alloc, session.sp, object, *after, *count)
+            let room = room_of(store, sessions, session);
+            tables::next(alloc, room, session.sp, object, *after, *count)
         }
         (Handler::ReadAcl, Ask::GetAcl { object, method }) => {
             let profile = store.committed().config().profile();
-            tables::get_acl(alloc, profile, session.sp, *object, *method)
+            let room = room_of(store, sessions, session);
+            tables::get_acl(alloc, room, profile, session.sp, *object, *method)
+        }
+        (Handler::Draw, Ask::Random { count }) => {
+            random::draw(alloc, store, sessions, session, *count)
         }
         _ => Ok(refused(alloc, status::FAIL, Rule::NoMethod)),
     }

@@ -8,7 +8,8 @@ macro_rules! method_cases {
         $arms! { $args
             [ThisSp:
                 Authenticate [] Authenticate,
-                RevertSp [] RevertSp]
+                RevertSp [] RevertSp,
+                Random [] Draw]
             [Sp:
                 GetCells [
                     UID Object, NAME Name, ORG Object, EFFECTIVE_AUTH Name, SP_BYTES Number, LIFE_CYCLE_STATE Number,

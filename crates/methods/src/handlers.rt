@@ -4,8 +4,8 @@ ghost use Rattle.std.specs.Prelude.{◌≡◌, ◌≢◌, ◌==◌, ◌↔◌, �
 ghost use Rattle.shadow_mbr.specs.Stored.{sector_size};
 ghost use Rattle.transactions.specs.Bytes.{bytes_from};
 ghost use Rattle.transactions.specs.Sights.{sight_of, is_manufactured};
-ghost use Rattle.trusted_cmds.specs.declared.block.SidBlock.TheVariants.{Free};
-ghost use Rattle.sessions.specs.Live.{Live};
+ghost use Rattle.sessions.specs.Beside.{new_beside};
+ghost use Rattle.sessions.specs.Live.{Live, session_room};
 ghost use Rattle.methods.specs.Kinds.{kind_of as kind_of_object};
 ghost use Rattle.methods.specs.Changes.{setting_seen};
 ghost use Rattle.sessions.specs.Answers.{rows_in_force};
@@ -20,7 +20,9 @@ ghost use Rattle.methods.specs.declared.outcome.MethodFault.TheVariants as fault
 use crate::changes::apply_set;
 use crate::erasures::{erased_by_key, erased_by_revert_sp, is_wholly_locked};
 use crate::lists::list_columns;
-use crate::outcome::{MethodFault, Outcome, denied, fitting, number_result, refused, said};
+use crate::outcome::{
+    MethodFault, Outcome, denied, fitting, number_result, refused, room_of, said,
+};
 use crate::settings::check_set;
 use ace_eval::Authorities;
 use audit::rules::Rule;
@@ -30,7 +32,6 @@ use shadow_mbr::{Erased, Erasure};
 use sp_cells::limits::MANUFACTURED;
 use sp_cells::{ByteTable, Column, Rows, Sp, Uid, number_at};
 use std::alloc::{AllocError, Global};
-use tcg_calls::call_shapes::limits::MOST_RESPONSE;
 use tcg_calls::call_shapes::{Ask, list_value, status};
 use tcg_tokens::{Bytes, Value};
 use transactions::{SessionId, Store, View};
@@ -39,6 +40,7 @@ use trusted_cmds::SidBlock;
 /// What Get lists, as results.
 fn columns_outcome<R: Rows>(
     alloc: Global,
+    room: u64,
     rows: &R,
     sp: Sp,
     object: Uid,
@@ -47,13 +49,13 @@ fn columns_outcome<R: Rows>(
     held: &Authorities,
 ) -> Result<Outcome, AllocError>
     ensures { IfOk result
-        (Tells (gives (list_given (R.profile_of rows.now) (R.look_up rows.now) sp object first last
+        (Tells (gives room (list_given (R.profile_of rows.now) (R.look_up rows.now) sp object first last
         held.now))) }
 {
     let listed = list_columns(alloc, rows, sp, object, first, last, held)?;
     let mut results = Vec::with_capacity(alloc, 1)?;
     results.push(list_value(listed))?;
-    Ok(fitting(alloc, results))
+    Ok(fitting(alloc, room, results))
 }
 
 /// Get of columns.
@@ -68,7 +70,8 @@ pub(crate) fn read_cells(
 ) -> Result<Outcome, MethodFault>
     ensures fulfils { IfOk result (λ out.
         Fulfils (outcome_in store.now session
-        (gives (listing (standing_in store.now sessions.now session) object first last)))
+        (gives (session_room store.now.config.profile sessions.now session)
+        (listing (standing_in store.now sessions.now session) object first last)))
         out store.now store.now sessions.now sessions.now) }
     ensures no_session { (result ≡ Err faults.NoSession) ↔ (live_holder sessions.now session
         ≡ None) }
@@ -78,6 +81,7 @@ pub(crate) fn read_cells(
     };
     let outcome = columns_outcome(
         alloc,
+        room_of(store, sessions, session),
         &store.view(session),
         session.sp,
         object,
@@ -91,12 +95,13 @@ pub(crate) fn read_cells(
 /// What Get of the bytes of a table reads.
 fn bytes_outcome(
     alloc: Global,
+    room: u64,
     view: &View<'_>,
     table: ByteTable,
     first: u64,
     last: Option<u64>,
 ) -> Result<Outcome, AllocError>
-    ensures { IfOk result (Tells (table_given (slice_index view.now.bytes)
+    ensures { IfOk result (Tells (table_given room (slice_index view.now.bytes)
         (sizes_in view.now.config) table first last)) }
 {
     let sizes = view.table_sizes();
@@ -112,13 +117,13 @@ fn bytes_outcome(
         return Ok(refused(alloc, status::INVALID_PARAMETER, Rule::OutsideTable));
     }
     let count = last + 1 - u128::from(first);
-    if count > u128::from(MOST_RESPONSE) {
+    if count > u128::from(room) {
         return Ok(refused(alloc, status::RESPONSE_OVERFLOW, Rule::TooLong));
     }
     let read = read_rows(alloc, view, sizes.begin_of(table) + first, count as usize)?;
     let mut results = Vec::new(alloc);
     results.push(Value::Bytes(Bytes::from_vec(read)))?;
-    Ok(fitting(alloc, results))
+    Ok(fitting(alloc, room, results))
 }
 
 /// Fills a buffer with the bytes of the byte tables from a place on.
@@ -148,19 +153,22 @@ fn read_rows(
 pub(crate) fn read_bytes(
     alloc: Global,
     store: &Store,
+    sessions: &Sessions,
     session: SessionId,
     table: ByteTable,
     first: u64,
     last: Option<u64>,
 ) -> Result<Outcome, MethodFault>
-    ensures fulfils { (l : Live) → IfOk result (λ out.
+    ensures fulfils { IfOk result (λ out.
         Fulfils (outcome_in store.now session
-        (table_given (slice_index (sight_of store.now session).bytes)
+        (table_given (session_room store.now.config.profile sessions.now session)
+        (slice_index (sight_of store.now session).bytes)
         (sizes_in store.now.config) table first last))
-        out store.now store.now l l) }
+        out store.now store.now sessions.now sessions.now) }
     ensures memory { IfErr result (λ e. e ≡ faults.OutOfMemory) }
 {
-    let outcome = bytes_outcome(alloc, &store.view(session), table, first, last)?;
+    let room = room_of(store, sessions, session);
+    let outcome = bytes_outcome(alloc, room, &store.view(session), table, first, last)?;
     Ok(outcome)
 }
 
@@ -175,7 +183,7 @@ pub(crate) fn write(
     requires { has_set (kind_of_object session.sp object) ≡ true }
     ensures fulfils { (l : Live) → IfOk result (λ out.
         Fulfils (outcome_in store.old session
-        (makes (to_set (standing_on Free store.old session []) object ask.now)))
+        (makes (to_set (standing_on new_beside 0 store.old session []) object ask.now)))
         out store.old store.new l l) }
     ensures err { OnErr result (store.new ≡ store.old) }
     ensures memory { IfErr result (λ e. e ≡ faults.OutOfMemory) }
@@ -200,7 +208,7 @@ pub(crate) fn authenticate(
 ) -> Result<Outcome, MethodFault>
     requires lives { live_holder sessions.old session ≢ None }
     ensures fulfils { IfOk result (λ out.
-        Fulfils (outcome_in store.old session (Attempts sessions.old.block authority proof.now))
+        Fulfils (outcome_in store.old session (Attempts sessions.old.beside.block authority proof.now))
         out store.old store.new sessions.old sessions.new) }
     ensures err { OnErr result ((store.new ≡ store.old) × (sessions.new ≡ sessions.old)) }
     ensures memory { IfErr result (λ e. e ≡ faults.OutOfMemory) }

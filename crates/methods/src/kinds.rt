@@ -48,6 +48,7 @@ pub enum Handler {
     RevertSp,
     ListRows,
     ReadAcl,
+    Draw,
 }
 
 /// The kind of the rows of a table, by the upper four bytes of their names.

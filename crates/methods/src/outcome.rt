@@ -1,22 +1,27 @@
 //! What a call is answered.
 
-ghost use Rattle.std.specs.Prelude.{◌≡◌, true, false, [], ◌∷◌, map, None, Some, nat_lt, IfOk};
+ghost use Rattle.std.specs.Prelude.{◌≡◌, ◌&&◌, true, false, [], ◌∷◌, map, None, Some, is_some, nat_le, IfOk, IfSome};
 ghost use Rattle.tcg_tokens.specs.Tree.{tree, number};
 ghost use Rattle.tcg_tokens.specs.Message.{message};
+ghost use Rattle.tcg_tokens.specs.Length.{len_of};
+ghost use Rattle.tcg_calls.specs.Carried.{is_carried};
+ghost use Rattle.sessions.specs.Live.{session_room};
 ghost use Rattle.tcg_calls.specs.Statuses.{success, not_authorized};
 ghost use Rattle.shadow_mbr.specs.Erasure.{no_sectors};
 ghost use Rattle.methods.specs.Said.{reply_of, refusal_of};
-ghost use Rattle.methods.specs.Judgement.{Denies, Refuses, gives};
+ghost use Rattle.methods.specs.Judgement.{Denies, Refuses, fits as fits_in, gives};
 ghost use Rattle.methods.specs.Calls.{Tells};
 
 use audit::Why;
 use audit::rules::Rule;
+use sessions::Sessions;
 use shadow_mbr::Erased;
 use std::alloc::{AllocError, AllocFailed, Global};
 use tcg_calls::call_shapes::limits::MOST_RESPONSE;
 use tcg_calls::call_shapes::status;
 use tcg_tokens::{Item, Value, item_len, writable};
 use thiserror::Error;
+use transactions::{SessionId, Store};
 
 /// What comes of a call: the reply, why it was denied, which rule refused it where nothing denied it, which sectors
 /// become zeros, and whether rows or bytes may have changed.
@@ -126,12 +131,52 @@ pub(crate) fn refused(alloc: Global, status: u64, rule: Rule) -> Outcome
     }
 }
 
-/// These results of a call that changes nothing, where a response can carry them.
-pub(crate) fn fitting(alloc: Global, results: Vec<Value>) -> Outcome
-    ensures { Tells (gives (map tree results.items)) result }
+/// Whether a response can carry an answer, which has room for so many bytes.
+fn fits(room: u64, reply: &Item) -> bool
+    ensures { result ≡ (is_carried (message reply.now) && nat_le (len_of (message reply.now)) room) }
+{
+    if !writable(reply) {
+        return false;
+    }
+    let len = item_len(reply) as u64;
+    len <= MOST_RESPONSE && len <= room
+}
+
+/// How many bytes of tokens a response to a session has room for.
+pub(crate) fn room_of(store: &Store, sessions: &Sessions, session: SessionId) -> u64
+    ensures { result ≡ session_room store.now.config.profile sessions.now session }
+{
+    sessions.room(store.committed().config().profile(), session)
+}
+
+/// These results of a call that draws random bytes, where a response can carry them; None where it can't.
+pub(crate) fn drawn(room: u64, results: Vec<Value>) -> Option<Outcome>
+    ensures fits { is_some result ≡ fits_in room (map tree results.items) }
+    ensures reply { IfSome result
+        (λ out. message out.reply ≡ reply_of (map tree results.items) success) }
+    ensures denied { IfSome result (λ out. out.denied ≡ None) }
+    ensures rule { IfSome result (λ out. out.rule ≡ None) }
+    ensures erases { IfSome result (λ out. out.erases ≡ no_sectors) }
 {
     let reply = reply(results, status::SUCCESS);
-    if writable(&reply) && item_len(&reply) as u64 <= MOST_RESPONSE {
+    if !fits(room, &reply) {
+        return None;
+    }
+    Some(Outcome {
+        reply,
+        denied: None,
+        rule: None,
+        erases: Erased::none(),
+        changes: false,
+    })
+}
+
+/// These results of a call that changes nothing, where a response can carry them.
+pub(crate) fn fitting(alloc: Global, room: u64, results: Vec<Value>) -> Outcome
+    ensures { Tells (gives room (map tree results.items)) result }
+{
+    let reply = reply(results, status::SUCCESS);
+    if fits(room, &reply) {
         return Outcome {
             reply,
             denied: None,

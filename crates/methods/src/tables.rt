@@ -33,13 +33,13 @@ fn uid_values(alloc: Global, names: &[Uid]) -> Result<Vec<Value>, AllocError>
 }
 
 /// The names of objects, in one list, as results.
-fn names_outcome(alloc: Global, names: &[Uid]) -> Result<Outcome, AllocError>
-    ensures { IfOk result (Tells (names_given names.now)) }
+fn names_outcome(alloc: Global, room: u64, names: &[Uid]) -> Result<Outcome, AllocError>
+    ensures { IfOk result (Tells (names_given room names.now)) }
 {
     let values = uid_values(alloc, names)?;
     let mut results = Vec::with_capacity(alloc, 1)?;
     results.push(list_value(values))?;
-    Ok(fitting(alloc, results))
+    Ok(fitting(alloc, room, results))
 }
 
 /// The rows behind one of them, where it is one.
@@ -79,14 +79,15 @@ fn at_most(rows: &[Uid], count: Option<u64>) -> &[Uid]
 /// The rows that are told, or that there is no such row.
 fn rows_outcome(
     alloc: Global,
+    room: u64,
     rows: &[Uid],
     after: Option<Uid>,
     count: Option<u64>,
 ) -> Result<Outcome, AllocError>
-    ensures { IfOk result (Tells (rows_told (rows_asked after count rows.now))) }
+    ensures { IfOk result (Tells (rows_told room (rows_asked after count rows.now))) }
 {
     match after_row(rows, after) {
-        Some(rows) => names_outcome(alloc, at_most(rows, count)),
+        Some(rows) => names_outcome(alloc, room, at_most(rows, count)),
         None => Ok(refused(alloc, status::INVALID_PARAMETER, Rule::NoSuchRow)),
     }
 }
@@ -94,34 +95,36 @@ fn rows_outcome(
 /// Next: the names of the rows of a table.
 pub(crate) fn next(
     alloc: Global,
+    room: u64,
     sp: Sp,
     table: Uid,
     after: Option<Uid>,
     count: Option<u64>,
 ) -> Result<Outcome, MethodFault>
     ensures tells { IfOk result
-        (Tells (rows_told (rows_asked after count (rows_of_table sp (table_of table))))) }
+        (Tells (rows_told room (rows_asked after count (rows_of_table sp (table_of table))))) }
     ensures memory { IfErr result (λ e. e ≡ faults.OutOfMemory) }
 {
     let rows = rows_of(alloc, sp, table.table())?;
-    let outcome = rows_outcome(alloc, &rows, after, count)?;
+    let outcome = rows_outcome(alloc, room, &rows, after, count)?;
     Ok(outcome)
 }
 
 /// GetACL: the ACEs that may allow a method of an object.
 pub(crate) fn get_acl(
     alloc: Global,
+    room: u64,
     profile: Profile,
     sp: Sp,
     object: Uid,
     method: Uid,
 ) -> Result<Outcome, MethodFault>
-    ensures tells { IfOk result (Tells (acl_told (acl_at profile sp object method))) }
+    ensures tells { IfOk result (Tells (acl_told room (acl_at profile sp object method))) }
     ensures memory { IfErr result (λ e. e ≡ faults.OutOfMemory) }
 {
     match access_row(profile, sp, object, method) {
         Some(acl) => {
-            let outcome = names_outcome(alloc, acl.as_slice())?;
+            let outcome = names_outcome(alloc, room, acl.as_slice())?;
             Ok(outcome)
         }
         None => Ok(refused(alloc, status::INVALID_PARAMETER, Rule::NoAccessLine)),

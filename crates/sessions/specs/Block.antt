@@ -1,16 +1,9 @@
--- What ends a block of SID (Block SID Authentication feature set 1.00).
+-- Which reset ends a block of SID (Block SID Authentication feature set 1.00).
 use Rattle.std.specs.Prelude.{ℕ, ◌==◌, ◌&&◌, ◌||◌, if◌then◌else◌}
-use Rattle.sp_cells.specs.declared.names.Sp.TheVariants.{Admin}
 use Rattle.sp_cells.specs.Resets.{power_cycle, hardware}
 use Rattle.trusted_cmds.specs.declared.block.SidBlock.{SidBlock}
 use Rattle.trusted_cmds.specs.declared.block.SidBlock.TheVariants.{Free}
 use Rattle.trusted_cmds.specs.BlockSid.{ends_at_hardware_reset}
-use Rattle.sessions.specs.Deeds.{SessionDeed, Reverted}
-
--- a Revert of the Admin SP
-abbrev pub block_after : SessionDeed → SidBlock → SidBlock
-block_after (Reverted Admin erasure) block = Free
-block_after _ block = block
 
 -- a power cycle, and a hardware reset where the command asked for that
 abbrev pub block_at_reset : ℕ → SidBlock → SidBlock

@@ -1,6 +1,6 @@
 -- What an item does, sent to the session manager or to a session, and how it is answered. A deed names its SP, and
 -- records what it did: the session as it began, the PIN that an Activate copied, which sectors were erased.
-use Rattle.std.specs.Prelude.{ℕ, List, [], Option, None, Some}
+use Rattle.std.specs.Prelude.{ℕ, Bool, List, [], Option, None, Some}
 use Rattle.sp_cells.specs.declared.names.Uid.{Uid}
 use Rattle.sp_cells.specs.declared.names.Sp.{Sp}
 use Rattle.sp_cells.specs.declared.names.Column.{Column}
@@ -14,6 +14,7 @@ use Rattle.audit.specs.declared.rules.rule.Rule.{Rule}
 use Rattle.tcg_tokens.specs.Message.{Message}
 use Rattle.sessions.specs.Attempts.{credential}
 use Rattle.sessions.specs.Gains.{gained as gained_by}
+use Rattle.sessions.specs.declared.beside.HostLimits.{HostLimits}
 use Rattle.sessions.specs.Live.{Holder}
 
 -- what a call sets: cells of its object, or bytes of the byte table
@@ -64,6 +65,14 @@ pub data SessionDeed : Type 0 where
   Activated : (pin : Option Cell) → SessionDeed
   Reverted : (sp : Sp) (erasure : Erasure) → SessionDeed
   Erased : (erasure : Erasure) → SessionDeed
+  -- so many random bytes were given
+  Drew : (count : ℕ) → SessionDeed
+  -- a host told what it takes on a ComID
+  HostTold : (com_id : ℕ) (limits : HostLimits) → SessionDeed
+  -- the stack of a ComID was reset, and the sessions of these SPs, which are on it, ended
+  StackReset : (com_id : ℕ) (ends : Sp → Bool) → SessionDeed
+  -- nothing is to be told any more of the stack of a ComID
+  StackTold : (com_id : ℕ) → SessionDeed
 
 -- which sectors become zeros
 abbrev pub erased_by : SessionDeed → Erasure

@@ -21,9 +21,10 @@ use Rattle.transactions.specs.Bytes.{written}
 use Rattle.transactions.specs.Stored.{Transaction, Part, Stored, part, at_part, part_begin, part_commit, part_close, part_tries, reverted}
 use Rattle.transactions.specs.Sights.{activated_with}
 use Rattle.sessions.specs.Answers.{rows_in_force, up}
-use Rattle.sessions.specs.Deeds.{Setting, cells_set, bytes_set, Change, Sets, Restores, Resets, Begun, holder_of, SessionDeed, Unchanged, Started, Tried, Changed, Began, Committed, Aborted, Ended, Activated, Reverted, Erased, erased_by, Outcome}
-use Rattle.sessions.specs.Block.{block_after}
-use Rattle.sessions.specs.Live.{Holder, Live, session_at, unless_on}
+use Rattle.sessions.specs.Deeds.{Setting, cells_set, bytes_set, Change, Sets, Restores, Resets, Begun, holder_of, SessionDeed, Unchanged, Started, Tried, Changed, Began, Committed, Aborted, Ended, Activated, Reverted, Erased, Drew, HostTold, StackReset, StackTold, erased_by, Outcome}
+use Rattle.sessions.specs.declared.beside.Beside.{Beside}
+use Rattle.sessions.specs.Beside.{freed, with_drawn, with_limits, with_reset_stack, with_told_stack}
+use Rattle.sessions.specs.Live.{Holder, Live, session_at, unless_on, unless_ending}
 
 -- what a setting makes of rows, of bytes, and of a store
 abbrev pub rows_with : Setting → List Item → List Item
@@ -82,6 +83,14 @@ Commits sp s t =
     (its : Transaction) × ((part s sp).pending ≡ Some its)
     × (t ≡ at_part sp (part_commit its.tsn) s)
 
+-- the transactions of these SPs end
+abbrev pub closed_if : Bool → Sp → Stored → Stored
+closed_if true sp s = at_part sp part_close s
+closed_if false sp s = s
+
+abbrev pub closed_where : (Sp → Bool) → Stored → Stored
+closed_where ends s = closed_if (ends Locking) Locking (closed_if (ends Admin) Admin s)
+
 -- what a deed makes of a store
 abbrev pub StoresAs : SessionDeed → Stored → Stored → Type 0
 StoresAs Unchanged s t = t ≡ s
@@ -95,6 +104,10 @@ StoresAs (Ended sp) s t = t ≡ at_part sp part_close s
 StoresAs (Activated pin) s t = t ≡ activated_with pin s
 StoresAs (Reverted sp erasure) s t = t ≡ reverted sp s
 StoresAs (Erased erasure) s t = t ≡ s
+StoresAs (Drew count) s t = t ≡ s
+StoresAs (HostTold com_id limits) s t = t ≡ s
+StoresAs (StackReset com_id ends) s t = t ≡ closed_where ends s
+StoresAs (StackTold com_id) s t = t ≡ s
 
 -- a session of the SP holds also what an attempt there gained, behind what it held
 abbrev pub with_each : List Uid → List Uid → List Uid
@@ -139,6 +152,19 @@ LivesAs (Committed sp) l m = LeavesAll l m
 LivesAs (Aborted sp) l m = LeavesAll l m
 LivesAs (Activated pin) l m = LeavesAll l m
 LivesAs (Erased erasure) l m = LeavesAll l m
+LivesAs (Drew count) l m = LeavesAll l m
+LivesAs (HostTold com_id limits) l m = LeavesAll l m
+LivesAs (StackReset com_id ends) l m = Leaves (unless_ending ends) l m
+LivesAs (StackTold com_id) l m = LeavesAll l m
+
+-- what a deed makes of what is kept beside them
+abbrev pub beside_after : SessionDeed → Beside → Beside
+beside_after (Reverted Admin erasure) b = freed b
+beside_after (Drew count) b = with_drawn count b
+beside_after (HostTold com_id limits) b = with_limits com_id limits b
+beside_after (StackReset com_id ends) b = with_reset_stack com_id b
+beside_after (StackTold com_id) b = with_told_stack com_id b
+beside_after _ b = b
 
 -- what is answered, what denied or refused it, which sectors are erased, and what is made of the store and of the
 -- sessions, is what an outcome says
@@ -150,4 +176,4 @@ pub record Meets (out : Outcome) (said : Message) (why : Option Why) (ruled : Op
   pub erases : erasure ≡ erased_by out.deed
   pub store : StoresAs out.deed s t
   pub sessions : LivesAs out.deed l m
-  pub block : m.block ≡ block_after out.deed l.block
+  pub beside : m.beside ≡ beside_after out.deed l.beside

@@ -124,7 +124,7 @@ opening_verdict_on look l o (Some sp) =
     if not (is_in_use look sp) then Refused invalid_parameter NotInUse else
     if lives_on sp l then Refused sp_busy SpBusy else
     if is_full l then Refused no_sessions_available NoNumber else
-    Attempted sp (attempt_failure l.block look sp o.authority o.proof)
+    Attempted sp (attempt_failure l.beside.block look sp o.authority o.proof)
 
 -- what comes of a StartSession: a refusal, or an attempt on its authority
 abbrev pub verdict : LookUp → Live → Option Opening → StartVerdict

@@ -8,7 +8,7 @@ use Rattle.methods.specs.declared.outcome.Outcome.{Outcome as Answered}
 use Rattle.history.specs.Opening.{Origin}
 use Rattle.sessions.specs.Deeds.{Begun, Outcome}
 use Rattle.history.specs.Events.{Event}
-use Rattle.history.specs.Readers.{session_on, sid_block}
+use Rattle.history.specs.Readers.{session_on, beside}
 use Rattle.history.specs.Facts.{Facts, facts}
 use Rattle.history.specs.History.{Act, log}
 use Rattle.history.specs.KeptStore.{KeepsStore}
@@ -23,7 +23,7 @@ AnswersAs out said s t l m = Meets out (message said.reply) said.denied said.rul
 abbrev pub OfManager : (Facts → Outcome) → Answered → Stored → Stored → Live → Live → Type 0
 OfManager outcome said s t l m =
     (o : Origin) (past : List Event) → KeepsStore s o past → KeepsSessions l past
-    → l.block ≡ sid_block past
+    → l.beside ≡ beside past
     → AnswersAs (outcome (facts o past)) said s t l m
 
 -- What an outcome in a live session comes to.
@@ -32,6 +32,6 @@ abbrev pub OfSession : (Facts → Begun → Outcome) → SessionId → Answered 
 OfSession outcome session said s t l m =
     (o : Origin) (acts : List Act) (its : Begun)
     → KeepsStore s o (log o acts) → KeepsSessions l (log o acts)
-    → l.block ≡ sid_block (log o acts)
+    → l.beside ≡ beside (log o acts)
     → session_on (log o acts) its.sp ≡ Some its → session ≡ id_of its
     → AnswersAs (outcome (facts o (log o acts)) its) said s t l m

@@ -19,6 +19,7 @@ ghost use Rattle.sp_cells.specs.Names.{properties, start_session};
 ghost use Rattle.methods.specs.Calls.{outcome_of};
 ghost use Rattle.methods.specs.PlainGets.{IsPlainGet};
 ghost use Rattle.methods.specs.Said.{refusal_of};
+ghost use Rattle.history.specs.Decisions.{is_session_com_id};
 ghost use Rattle.history.specs.Facts.{has_open};
 ghost use Rattle.tper.specs.Items.{OfManager, OfSession};
 
@@ -90,6 +91,7 @@ fn call_manager(
     com_id: ComId,
     call: &Call,
 ) -> Result<Outcome, AllocError>
+    requires com_id { is_session_com_id com_id ≡ true }
     ensures met { IfOk result (λ said. OfManager
         (λ f. called_manager f com_id (uid_in call.now.object) (uid_in call.now.method)
         (values_of (trees call.now.args.items))) said store.old store.new sessions.old
@@ -102,7 +104,8 @@ fn call_manager(
 {
     if uid_of(&call.object) == Uid::SESSION_MANAGER && uid_of(&call.method) == Uid::PROPERTIES {
         let profile = store.committed().config().profile();
-        return Ok(answer(sessions.properties(profile, call)?, None, false));
+        let reply = sessions.properties(profile, com_id, call)?;
+        return Ok(answer(reply, None, false));
     }
     if uid_of(&call.object) == Uid::SESSION_MANAGER && uid_of(&call.method) == Uid::START_SESSION {
         let started = sessions.start(store, com_id, call)?;
@@ -136,7 +139,7 @@ pub(crate) fn is_discarded(
 ) -> Result<bool, AllocError>
     ensures { IfOk result (λ b. b ≡ is_discarded_by profile (message_in tokens.now)) }
 {
-    if profile != Profile::Opal {
+    if !profile.has_opal() {
         return Ok(false);
     }
     match read_item(alloc, tokens) {
@@ -150,7 +153,7 @@ pub(crate) fn is_discarded(
 pub(crate) fn breaks_off(alloc: Global, profile: Profile, tokens: &[u8]) -> Result<bool, AllocError>
     ensures { IfOk result (λ b. b ≡ breaks_off_by profile (item_in profile tokens.now)) }
 {
-    if profile != Profile::Opal || begins_with_end(tokens) {
+    if !profile.has_opal() || begins_with_end(tokens) {
         return Ok(false);
     }
     match read_item(alloc, tokens) {
@@ -169,6 +172,7 @@ pub(crate) fn to_manager(
     com_id: ComId,
     tokens: &[u8],
 ) -> Result<Outcome, AllocError>
+    requires com_id { is_session_com_id com_id ≡ true }
     ensures met { IfOk result (λ said. OfManager
         (λ f. to_manager f com_id (message_in tokens.now)) said
         store.old store.new sessions.old sessions.new) }

@@ -6,6 +6,8 @@ ghost use Rattle.tcg_calls.specs.Carried.{is_carried};
 ghost use Rattle.transactions.specs.Stored.{Stored};
 ghost use Rattle.sessions.specs.Live.{Live};
 ghost use Rattle.basics.specs.declared.profile.Profile.{Profile};
+ghost use Rattle.sessions.specs.declared.beside.HostLimits.{HostLimits};
+ghost use Rattle.sessions.specs.Beside.{IsSmall};
 ghost use Rattle.sessions.specs.Properties.{properties_message, max_com_packet_size, max_packet_size};
 ghost use Rattle.compacket.specs.declared.headers.TheConstants.{COM_PACKET_HEADER, MAX_COM_PACKET};
 ghost use Rattle.sessions.specs.Starts.{start_reply};
@@ -27,8 +29,8 @@ pub fn laws_of_answers()
         → is_carried (outcome_of rows sp (judged its object method ask)).said ≡ true }
     ensures start { (s : Stored) (l : Live) (args : List Tree)
         → is_carried (start_reply s l args) ≡ true }
-    ensures properties { (profile : Profile) (args : List Tree)
-        → is_carried (properties_message profile args) ≡ true }
+    ensures properties { (profile : Profile) (before : HostLimits) (args : List Tree) → IsSmall before
+        → is_carried (properties_message profile before args) ≡ true }
 {}
 
 /// What Properties tells of sizes is what ComPackets have: at most so many bytes, less the ComPacket's header in a packet.

@@ -1,7 +1,6 @@
 //! The TPer: what is kept behind the ComIDs, and what a send and a receive do with it.
 
 ghost use Rattle.std.specs.Prelude.{◌≡◌, ◌≢◌, ℕ, List, [], ◌∷◌, None, Some, true, false, IfOk, OnErr, OnOk, is_some, length, slice_index, ◌||◌, ◌<◌, ◌≤◌, ◌+◌, ◌*◌};
-ghost use Rattle.compacket.specs.Frames.{reading as frame_in};
 ghost use Rattle.device_data.specs.ErrorLog.{sized};
 ghost use Rattle.sp_tables.specs.Contents.{Contents};
 ghost use Rattle.shadow_mbr.specs.Erasure.{no_sectors};
@@ -9,12 +8,14 @@ ghost use Rattle.shadow_mbr.specs.Stored.{sector_size};
 ghost use Rattle.transactions.specs.Bytes.{bytes_from};
 ghost use Rattle.transactions.specs.Sights.{look_up, committed_sight};
 ghost use Rattle.transactions.specs.Stored.{after_reset, part};
-ghost use Rattle.sessions.specs.Live.{session_at, lives_on};
-ghost use Rattle.sessions.specs.Block.{block_at_reset};
+ghost use Rattle.sessions.specs.Live.{session_at, lives_on, lives_of, AreNumberedOf};
+ghost use Rattle.sessions.specs.Made.{closed_if};
+ghost use Rattle.sessions.specs.Beside.{beside_at_reset, channel_of, with_reset_stack, with_told_stack};
+ghost use Rattle.sp_cells.specs.declared.names.Sp.TheVariants.{Admin, Locking};
 ghost use Rattle.trusted_cmds.specs.BlockSid.{is_blocked};
 ghost use Rattle.device_data.specs.Discovery.{has_owner};
 ghost use Rattle.history.specs.Agreement.{HasNoTries};
-ghost use Rattle.history.specs.Tcg.{received_bytes, sent, to_manager, in_session, item_in};
+ghost use Rattle.history.specs.Tcg.{received_bytes, sent, broken_of as broken_in_profile, stack_reset, to_manager, in_session, item_in};
 ghost use Rattle.history.specs.Decisions.{is_session_com_id, lets_reset, received};
 ghost use Rattle.history.specs.Events.{Event, WasReset, BlockedSid, did};
 ghost use Rattle.history.specs.Facts.{facts};
@@ -27,7 +28,7 @@ ghost use Rattle.tcg_tokens.specs.Message.{message, end_session};
 ghost use Rattle.tcg_tokens.specs.Reading.{reading as message_in};
 ghost use Rattle.methods.specs.Effects.{live_holder};
 ghost use Rattle.tper.specs.Items.{OfManager, OfSession};
-ghost use Rattle.tper.specs.Tper.{Keeps, IsToldOfSend, Handles, BreaksOff, Manages, ServesSession, Responds, Takes, response_at};
+ghost use Rattle.tper.specs.Tper.{Keeps, IsToldOfSend, Handles, BreaksOff, IsUnframed, Manages, ServesSession, Responds, Takes, response_at, unless_on_if, told_event};
 ghost use Rattle.sessions.specs.Deeds.{Ended, says};
 
 use crate::item::{breaks_off, end_session, in_session, is_discarded, to_manager};
@@ -35,7 +36,7 @@ use crate::response::{Responses, Room};
 use audit::Why;
 use audit::rules::Rule;
 use basics::Profile;
-use compacket::{ComId, Session, open};
+use compacket::{ComId, Named, Session, broken, open};
 use device_data::has_owner;
 use methods::Outcome;
 use sessions::Sessions;
@@ -86,6 +87,17 @@ impl Model for Tper {
     ghost use Rattle.sp_cells.specs.Limits.{most_mbr_sectors};
 
     ghost invariant = { λ t. t.store.config.mbr_sectors ≤ most_mbr_sectors };
+}
+
+/// What a payload names that carries no whole subpacket, on a drive of the profile `Opal`.
+fn broken_of(profile: Profile, payload: &[u8]) -> Option<Named>
+    ensures { result ≡ broken_in_profile profile payload.now }
+{
+    if profile.has_opal() {
+        broken(payload)
+    } else {
+        None
+    }
 }
 
 /// Nothing became of it, by a rule.
@@ -182,7 +194,7 @@ impl Tper {
 
     /// Whether attempts on SID are blocked.
     pub fn block(&self) -> SidBlock
-        ensures { result ≡ self.now.live.block }
+        ensures { result ≡ self.now.live.beside.block }
     {
         self.sessions.block()
     }
@@ -190,7 +202,7 @@ impl Tper {
     /// Whether the command that blocks SID is refused: SID has a PIN of its own by the rows in force, or is blocked.
     pub fn keeps_sid(&self) -> bool
         ensures { result ≡ (has_owner (look_up (committed_sight self.now.store))
-            || is_blocked self.now.live.block) }
+            || is_blocked self.now.live.beside.block) }
     {
         has_owner(&self.store.committed()) || self.sessions.block().is_blocked()
     }
@@ -207,7 +219,9 @@ impl Tper {
     /// What a block of SID makes of each part.
     fn put_block(&mut self, block: SidBlock)
         ensures store { self.new.store ≡ self.old.store }
-        ensures live { self.new.live ≡ record self.old.live { block = block } }
+        ensures live { self.new.live ≡ record self.old.live {
+          beside = record self.old.live.beside { block = block };
+        } }
         ensures waiting { self.new.waiting ≡ self.old.waiting }
     {
         self.sessions.set_block(block);
@@ -231,17 +245,17 @@ impl Tper {
     ) -> Result<Sent, AllocError>
         requires { is_session_com_id com_id ≡ true }
         ensures kept { OnOk result ((o : Origin) (acts : List Act) → Keeps self.old o (log o acts)
-            → Keeps self.new o (sent (facts o (log o acts)) com_id (frame_in payload.now)
+            → Keeps self.new o (sent (facts o (log o acts)) com_id payload.now
             ∷ log o acts)) }
         ensures answer { IfOk result (λ s. (o : Origin) (acts : List Act)
             → Keeps self.old o (log o acts)
-            → IsToldOfSend (sent (facts o (log o acts)) com_id (frame_in payload.now)) s) }
+            → IsToldOfSend (sent (facts o (log o acts)) com_id payload.now) s) }
         ensures unchanged { IfOk result (λ s. s.changes ≡ false → self.new.store ≡ self.old.store) }
         ensures err { OnErr result (self.new ≡ self.old) }
         ensures config { self.new.store.config ≡ self.old.store.config }
     {
         let Ok(frame) = open(payload) else {
-            return Ok(nothing(Rule::NoFrame));
+            return Ok(self.send_unframed(com_id, payload));
         };
         if frame.com_id != com_id {
             return Ok(nothing(Rule::NoFrame));
@@ -253,6 +267,27 @@ impl Tper {
         match self.sessions.find(com_id, session.tsn, session.hsn) {
             None => Ok(nothing(Rule::NoSession)),
             Some(id) => self.serve(com_id, session, id, frame.payload, spare),
+        }
+    }
+
+    /// What is no frame: under the profile `Opal` what carries no whole subpacket ends the session that it names.
+    fn send_unframed(&mut self, com_id: ComId, payload: &[u8]) -> Sent
+        ensures handled { IsUnframed com_id payload.now result self.old self.new }
+        ensures unchanged { result.changes ≡ false → self.new.store ≡ self.old.store }
+        ensures config { self.new.store.config ≡ self.old.store.config }
+    {
+        let Some(named) = broken_of(self.profile(), payload) else {
+            return nothing(Rule::NoFrame);
+        };
+        if named.com_id != com_id {
+            return nothing(Rule::NoFrame);
+        }
+        match self
+            .sessions
+            .find(com_id, named.session.tsn, named.session.hsn)
+        {
+            None => nothing(Rule::NoFrame),
+            Some(id) => self.break_off(id, Rule::NoSubpacket),
         }
     }
 
@@ -330,14 +365,14 @@ impl Tper {
         ensures config { self.new.store.config ≡ self.old.store.config }
     {
         if breaks_off(self.alloc, self.profile(), tokens)? {
-            return Ok(self.break_off(id));
+            return Ok(self.break_off(id, Rule::BrokenOff));
         }
         self.answer_session(com_id, session, id, tokens, spare)
     }
 
-    /// A session ends, and nothing is answered.
-    fn break_off(&mut self, id: SessionId) -> Sent
-        ensures ends { BreaksOff (λ said. OfSession (λ f its. says (Ended its.sp) end_session) id
+    /// A session ends by a rule, and nothing is answered.
+    fn break_off(&mut self, id: SessionId, rule: Rule) -> Sent
+        ensures ends { BreaksOff rule (λ said. OfSession (λ f its. says (Ended its.sp) end_session) id
             said self.old.store self.new.store self.old.live self.new.live) result self.old
             self.new }
         ensures changes { result.changes ≡ true }
@@ -346,7 +381,7 @@ impl Tper {
         end_session(&mut self.store, &mut self.sessions, id);
         Sent {
             denied: None,
-            rule: Some(Rule::BrokenOff),
+            rule: Some(rule),
             erases: Erased::none(),
             changes: true,
         }
@@ -429,6 +464,86 @@ impl Tper {
         Ok(data)
     }
 
+    /// Resets the stack of a ComID: its sessions end, their transactions are aborted, and the response that waits there is
+    /// dropped. It takes no memory.
+    pub fn reset_stack(&mut self, com_id: ComId)
+        requires { is_session_com_id com_id ≡ true }
+        ensures config { self.new.store.config ≡ self.old.store.config }
+        ensures kept { (o : Origin) (past : List Event) → Keeps self.old o past
+            → Keeps self.new o (stack_reset (facts o past) com_id ∷ past) }
+    {
+        self.clear_stack(com_id);
+    }
+
+    /// What a reset of the stack of a ComID makes of each part.
+    fn clear_stack(&mut self, com_id: ComId)
+        requires { is_session_com_id com_id ≡ true }
+        ensures store { self.new.store
+            ≡ closed_if (lives_of com_id Locking self.old.live) Locking
+            (closed_if (lives_of com_id Admin self.old.live) Admin self.old.store) }
+        ensures points { (n : ℕ) → session_at self.new.live n
+            ≡ unless_on_if (lives_of com_id Locking self.old.live) Locking
+            (unless_on_if (lives_of com_id Admin self.old.live) Admin
+            (session_at self.old.live n)) }
+        ensures next { self.new.live.next ≡ self.old.live.next }
+        ensures beside { self.new.live.beside ≡ with_reset_stack com_id self.old.live.beside }
+        ensures waiting { (other : ℕ) → response_at self.new.waiting other
+            ≡ (if com_id == other then None else response_at self.old.waiting other) }
+        ensures numbered { AreNumberedOf self.old.live }
+    {
+        self.sessions.numbered_of();
+        let admin = self.sessions.any_of(Sp::Admin, com_id);
+        let locking = self.sessions.any_of(Sp::Locking, com_id);
+        self.end_if(Sp::Admin, admin);
+        self.end_if(Sp::Locking, locking);
+        self.sessions.reset_stack(com_id);
+        self.responses.put(com_id, None);
+    }
+
+    /// Ends the session of an SP, with its transaction, or does nothing.
+    fn end_if(&mut self, sp: Sp, ends: bool)
+        ensures store { self.new.store ≡ closed_if ends sp self.old.store }
+        ensures points { (n : ℕ) → session_at self.new.live n
+            ≡ unless_on_if ends sp (session_at self.old.live n) }
+        ensures next { self.new.live.next ≡ self.old.live.next }
+        ensures beside { self.new.live.beside ≡ self.old.live.beside }
+        ensures waiting { self.new.waiting ≡ self.old.waiting }
+    {
+        if ends {
+            self.store.close(sp);
+            self.sessions.end_on(sp);
+        }
+    }
+
+    /// Whether a reset of the stack of a ComID is to be told.
+    pub fn was_reset(&self, com_id: ComId) -> bool
+        ensures { result ≡ (channel_of self.now.live.beside com_id).was_reset }
+    {
+        self.sessions.beside().channel(com_id).was_reset
+    }
+
+    /// Nothing is to be told any more of the stack of a ComID, by a rule or as it was told.
+    pub fn tell_stack(&mut self, com_id: ComId)
+        requires { is_session_com_id com_id ≡ true }
+        ensures config { self.new.store.config ≡ self.old.store.config }
+        ensures kept { (o : Origin) (past : List Event) (rule : Option Rule) → Keeps self.old o past
+            → Keeps self.new o (told_event com_id rule ∷ past) }
+    {
+        self.forget_stack(com_id);
+    }
+
+    /// What that makes of each part.
+    fn forget_stack(&mut self, com_id: ComId)
+        requires { is_session_com_id com_id ≡ true }
+        ensures store { self.new.store ≡ self.old.store }
+        ensures live { self.new.live ≡ record self.old.live {
+          beside = with_told_stack com_id self.old.live.beside;
+        } }
+        ensures waiting { self.new.waiting ≡ self.old.waiting }
+    {
+        self.sessions.tell_stack(com_id);
+    }
+
     /// Ends all sessions and transactions, drops the responses that wait, and does what a reset of this kind does to
     /// the rows and to a block of SID. It takes no memory.
     pub fn reset(&mut self, kind: u8)
@@ -444,7 +559,7 @@ impl Tper {
         ensures store { self.new.store ≡ after_reset kind self.old.store }
         ensures none { (n : ℕ) → session_at self.new.live n ≡ None }
         ensures next { self.new.live.next ≡ self.old.live.next }
-        ensures block { self.new.live.block ≡ block_at_reset kind self.old.live.block }
+        ensures beside { self.new.live.beside ≡ beside_at_reset kind self.old.live.beside }
         ensures waiting { (com_id : ℕ) → response_at self.new.waiting com_id ≡ None }
     {
         self.store.reset_rows(kind);

@@ -13,8 +13,8 @@ pub fn laws_of_access_list()
         × (line_count Locking (access_list Base) ≡ 234) }
     ensures field { (line_count Admin (access_list Field) ≡ 26)
         × (line_count Locking (access_list Field) ≡ 328) }
-    ensures opal { (line_count Admin (access_list Opal) ≡ 71)
-        × (line_count Locking (access_list Opal) ≡ 417) }
+    ensures opal { (line_count Admin (access_list Opal) ≡ 72)
+        × (line_count Locking (access_list Opal) ≡ 418) }
     ensures room_base { IsTrue (have_room (access_list Base)) }
     ensures room_field { IsTrue (have_room (access_list Field)) }
     ensures room_opal { IsTrue (have_room (access_list Opal)) }

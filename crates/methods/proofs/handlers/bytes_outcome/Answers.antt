@@ -3,7 +3,6 @@ use Rattle.std.proofs.lemmas.Bool.Decides.{nat_tests}
 use Rattle.std.specs.Prelude.{◌-◌, nat_le, nat_lt, slice_index}
 use Rattle.sp_cells.specs.Config.{sizes_in, table_sectors}
 use Rattle.sp_cells.specs.ByteTables.{bytes_of_table, table_begin, sectors_of}
-use Rattle.tcg_calls.specs.Limits.{most_response}
 use Rattle.tcg_tokens.specs.Tree.{tree, bytes}
 use Rattle.tcg_tokens.specs.declared.value.Value.{Bytes}
 use Rattle.transactions.specs.Bytes.{bytes_from}
@@ -28,14 +27,14 @@ returns c =
     let some : (size == 0) ≡ false = grind (arith, nat_tests) in
     let below : nat_le size last ≡ false = grind (arith, nat_tests) in
     let above : nat_lt last c.args.first ≡ false = grind (arith, nat_tests) in
-    let few : nat_lt most_response (last + 1 - c.args.first) ≡ false = grind (arith, nat_tests) in
+    let few : nat_lt c.args.room (last + 1 - c.args.first) ≡ false = grind (arith, nat_tests) in
     let pushed : map tree c.push.new.self.items ≡ bytes c.in_ok-read.read.items ∷ [] =
     ap (map tree) (c.in_ok-push.ensures.items ∙ ap (λ values. values ++ Bytes c.from_vec.result ∷ []) c.new-results.ensures.items) ∙ ap (λ t. t ∷ []) (tree_bytes c.from_vec.result) ∙ ap (λ read. bytes read ∷ []) c.from_vec.ensures in
     let read : c.in_ok-read.read.items ≡ bytes_from byte (begin + c.args.first) (last + 1 - c.args.first) =
     c.in_ok-read.ensures ∙ ap₂ (bytes_from byte) (ap (λ (m : ℕ). m + c.args.first) begun) (omega arith) in
     let given : map tree c.push.new.self.items ≡ bytes_between (λ row. byte (begin + row)) c.args.first last =
     pushed ∙ ap (λ read. bytes read ∷ []) (read ∙ bytes-behind byte begin c.args.first (last + 1 - c.args.first)) in
-    tells-as _ _ c.fitting.result (bytes-told (λ row. byte (begin + row)) size c.args.first last c.args.last _ is some below above few given ∙ ap (λ n. bytes_given (λ row. byte (begin + row)) n c.args.first c.args.last) sized) c.fitting.ensures
+    tells-as _ _ c.fitting.result (bytes-told c.args.room (λ row. byte (begin + row)) size c.args.first last c.args.last _ is some below above few given ∙ ap (λ n. bytes_given c.args.room (λ row. byte (begin + row)) n c.args.first c.args.last) sized) c.fitting.ensures
 
 pub read_rows-requires : goal.read_rows-requires
 read_rows-requires c =

@@ -8,4 +8,4 @@ use Rattle.methods.proofs.tables.names_outcome.Goals as goal
 pub returns : goal.returns
 returns c =
     let given : map tree c.push.new.self.items ≡ uids_tree c.args.names.now ∷ [] = search rules in
-    tells-as _ _ c.fitting.result (ap gives given) c.fitting.ensures
+    tells-as _ _ c.fitting.result (ap (gives c.args.room) given) c.fitting.ensures

@@ -4,4 +4,4 @@ use Rattle.sessions.proofs.LiveLemmas.{are_numbered}
 use Rattle.sessions.proofs.live.Sessions.numbered.Goals as goal
 
 pub returns : goal.returns
-returns c = subst AreNumbered c.self.view_is (are_numbered (record { sessions = c.self.inside.live.entries; next = c.self.inside.next; block = c.self.inside.block }) c.len.ensures.unique)
+returns c = subst AreNumbered c.self.view_is (are_numbered (record { sessions = c.self.inside.live.entries; next = c.self.inside.next; beside = c.self.inside.beside }) c.len.ensures.unique)
