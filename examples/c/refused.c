@@ -94,7 +94,7 @@ static void opal_sizes(void)
     ask("an opal drive with a DataStore of 10,485,759 bytes", &config);
     config.datastore = 16777216;
     config.seed = UINT64_MAX;
-    must(opal_drive_new(&drive, &config) == OPAL_DONE && opal_free(&drive) == OPAL_DONE, "the largest DataStore and seed do not fit");
+    must(opal_drive_new(&drive, &config) == OPAL_DONE && opal_free(&drive) == OPAL_DONE, "the largest numbers do not fit");
 }
 
 static void rows(void)
