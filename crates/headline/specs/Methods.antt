@@ -16,7 +16,7 @@ use Rattle.trusted_cmds.specs.declared.command.Command.TheVariants.{Send}
 use Rattle.tcg_calls.specs.Asks.{uid_of}
 use Rattle.tcg_calls.specs.Statuses.{success, not_authorized}
 use Rattle.tcg_calls.specs.declared.call_shapes.ask.Ask.{Ask}
-use Rattle.tcg_calls.specs.declared.call_shapes.ask.Ask.TheVariants.{GetCells, GetBytes, SetCells, SetBytes, Authenticate, Activate, Revert, GenKey, RevertSp, Next, GetAcl, Other}
+use Rattle.tcg_calls.specs.declared.call_shapes.ask.Ask.TheVariants.{GetCells, GetBytes, SetCells, SetBytes, Authenticate, Activate, Revert, GenKey, RevertSp, Next, GetAcl, Random, Other}
 use Rattle.shadow_mbr.specs.Erasure.{no_sectors, all_sectors}
 use Rattle.sp_cells.specs.Numbers.{key_number}
 use Rattle.methods.specs.Erasures.{erased_by_key, erased_by_revert_sp, is_wholly_locked}
@@ -26,7 +26,7 @@ use Rattle.methods.specs.Said.{reply_of}
 use Rattle.sessions.specs.Attempts.{attempt_failure as failure_of, credential}
 use Rattle.sessions.specs.Starts.{is_in_use}
 use Rattle.methods.specs.Effects.{sp_of_row}
-use Rattle.sessions.specs.Deeds.{Setting, Sets, Outcome, says, Attempt, SessionDeed, Unchanged, Tried, Changed, Activated, Reverted, Erased, Begun}
+use Rattle.sessions.specs.Deeds.{Setting, Sets, Outcome, says, Attempt, SessionDeed, Unchanged, Tried, Changed, Activated, Reverted, Erased, Drew, Begun}
 use Rattle.methods.specs.Judgement.{Judgement, Standing, asked, does, to_set}
 use Rattle.history.specs.Decisions.{is_session_com_id}
 use Rattle.history.specs.Tcg.{takes_blocks, answers, is_manager, tcg, item_in}
@@ -87,7 +87,8 @@ comes_to o before session object ask = does (standing_at o before session) (uid_
 -- reverts the SP of the row, and erases all sectors where the Locking SP is in use, and else none;
 -- GenKey erases the sectors of the range whose key the object is, by the rows in force; RevertSP reverts
 -- the Locking SP, and erases all sectors, or those of the numbered ranges by the rows in force before
--- it, where it keeps the global range, which then is not locked both ways.
+-- it, where it keeps the global range, which then is not locked both ways; Random gives so many random
+-- bytes, which are given to no other call.
 abbrev pub EffectIs : Facts → Begun → Uid → Ask → SessionDeed → Type 0
 EffectIs f session object (GetCells first last) deed = deed ≡ Unchanged
 EffectIs f session object (GetBytes first last) deed = deed ≡ Unchanged
@@ -101,7 +102,7 @@ EffectIs f session object (Authenticate authority pin) deed =
     (attempt : Attempt) × (deed ≡ Tried attempt)
     × (attempt.sp ≡ session.sp) × (attempt.authority ≡ authority)
     × (attempt.row ≡ credential f.rows session.sp authority)
-    × (attempt.failure ≡ failure_of f.block f.rows session.sp authority pin)
+    × (attempt.failure ≡ failure_of f.beside.block f.rows session.sp authority pin)
 EffectIs f session object Activate deed =
     (is_in_use f.rows Locking ≡ true → deed ≡ Unchanged)
     × (is_in_use f.rows Locking ≡ false → deed ≡ Activated (f.rows Admin c_pin_sid pin_column))
@@ -115,6 +116,7 @@ EffectIs f session object (RevertSp keep) deed =
     × (deed ≡ Reverted Locking (erased_by_revert_sp f.rows keep))
 EffectIs f session object (Next after count) deed = deed ≡ Unchanged
 EffectIs f session object (GetAcl about what) deed = deed ≡ Unchanged
+EffectIs f session object (Random count) deed = deed ≡ Drew count
 EffectIs f session object Other deed = ⊥
 
 -- A call that is refused for want of an entry: it changes nothing, and is answered NOT_AUTHORIZED,
