@@ -9,7 +9,7 @@ use Rattle.history.specs.Items.{Items}
 use Rattle.history.specs.History.{Act, event_of, event_in}
 use Rattle.history.specs.NoTrace.{emptied, is_commit, Aborts, further}
 use Rattle.history.specs.Opening.{Origin}
-use Rattle.history.specs.Readers.{is_start, living, starts, gains, turns, open_on, own_changes, if_open, open_changes, only_on, unless_any_open, brought, changes, tries_then, writing, holding, failing, waits, block_then, settings_then}
+use Rattle.history.specs.Readers.{is_start, living, starts, gains, turns, open_on, own_changes, if_open, open_changes, only_on, unless_any_open, brought, changes, tries_then, writing, holding, failing, waits, beside_then, settings_then}
 use Rattle.history.proofs.Emptied.{every-since, every-since-more, tries-emptied, open_on-emptied, open_changes-emptied, changes-emptied}
 use Rattle.history.proofs.NoTraceLaws.{Read, Alike, read-emptied, open_changes-more, facts-alike}
 use Rattle.history.proofs.Words.{latest-here, sp-is}
@@ -41,7 +41,7 @@ read_more e es fs h = record {
   failure = latest_more failing None e es fs h.failure;
   waiting = λ com_id. latest_more (waits com_id) None e es fs (h.waiting com_id);
   sector = λ place. latest_more (writing place) _ e es fs (h.sector place);
-  block = ap (block_then e.deed) h.block;
+  beside = ap (beside_then e.deed) h.beside;
   settings = ap (settings_then e.deed) h.settings;
 }
 

@@ -8,26 +8,25 @@ use Rattle.fis.specs.H2d.{h2d_at}
 use Rattle.fis.specs.declared.h2d.RegH2d.{RegH2d}
 use Rattle.audit.specs.declared.reason.Why.{Why}
 use Rattle.compacket.specs.Frames.{reading as frame_in}
-use Rattle.tcg_tokens.specs.Tree.{Tree, Trees}
+use Rattle.tcg_tokens.specs.Tree.{Tree, Trees, bytes}
 use Rattle.trusted_cmds.specs.declared.command.Command.{Command}
 use Rattle.trusted_cmds.specs.declared.command.Command.TheVariants.{Send}
 use Rattle.trusted_cmds.specs.Commands.{fis_of, tag_with, is_queued as is_queued_code}
 use Rattle.tcg_calls.specs.Asks.{uid_of}
-use Rattle.tcg_calls.specs.Statuses.{fail, invalid_parameter, response_overflow, not_authorized}
+use Rattle.tcg_calls.specs.Statuses.{fail, invalid_parameter, response_overflow, not_authorized, success}
 use Rattle.tcg_calls.specs.declared.call_shapes.ask.Ask.{Ask}
-use Rattle.tcg_calls.specs.declared.call_shapes.ask.Ask.TheVariants.{GetCells, GetBytes, SetCells, SetBytes, Authenticate, Activate, Revert, GenKey, RevertSp, Next, GetAcl, Other}
-use Rattle.tcg_calls.specs.Limits.{most_response}
+use Rattle.tcg_calls.specs.declared.call_shapes.ask.Ask.TheVariants.{GetCells, GetBytes, SetCells, SetBytes, Authenticate, Activate, Revert, GenKey, RevertSp, Next, GetAcl, Random, Other}
 use Rattle.sessions.specs.Starts.{is_in_use}
 use Rattle.shadow_mbr.specs.Erasure.{no_sectors, all_sectors}
 use Rattle.methods.specs.Effects.{has_ask}
 use Rattle.sp_cells.specs.ByteTables.{bytes_of_table, table_begin}
 use Rattle.methods.specs.Kinds.{kind_of, byte_table_of}
-use Rattle.sessions.specs.Deeds.{Setting, Sets, Unchanged, Changed, Activated, Reverted, Erased, Begun}
+use Rattle.sessions.specs.Deeds.{Setting, Sets, Unchanged, Changed, Activated, Reverted, Erased, Drew, Begun}
 use Rattle.methods.specs.Listed.{listed}
 use Rattle.methods.proofs.ListLaws.{list_law}
 use Rattle.sp_cells.specs.Numbers.{key_number}
 use Rattle.methods.specs.Erasures.{erased_by_key, erased_by_revert_sp, is_wholly_locked}
-use Rattle.methods.specs.Judgement.{RevertsSp, erases, Judgement, Refuses, Gives, Activates, Reverts, Standing, bytes_between, rows_given, gives, listing, makes, unless_open, does_ask, does, judged, asked, Denies, rows_told, acl_told}
+use Rattle.methods.specs.Judgement.{RevertsSp, erases, Judgement, Refuses, Gives, Draws, draws, fits, Activates, Reverts, Standing, bytes_between, rows_given, gives, listing, makes, unless_open, does_ask, does, judged, asked, Denies, rows_told, acl_told}
 use Rattle.history.specs.Decisions.{is_session_com_id, is_trusted}
 use Rattle.history.specs.Tcg.{takes_blocks, answers, tcg}
 use Rattle.methods.specs.Calls.{outcome_of}
@@ -42,7 +41,7 @@ use Rattle.sp_cells.specs.declared.names.Sp.TheVariants.{Admin, Locking}
 use Rattle.sp_cells.specs.declared.names.Uid.{Uid}
 use Rattle.sp_cells.specs.ColumnNames.{pin_column}
 use Rattle.sp_tables.specs.RowNames.{rows_of_table}
-use Rattle.methods.specs.Tables.{rows_asked}
+use Rattle.methods.specs.Tables.{rows_asked, uids_tree}
 use Rattle.ace_eval.specs.Aces.{acl_at}
 use Rattle.sp_cells.specs.Names.{c_pin_sid, table_of}
 use Rattle.history.specs.Opening.{Origin}
@@ -62,9 +61,10 @@ use Rattle.port_history.proofs.Tests.{none_is, none_holds, tests_of}
 use Rattle.headline.specs.Steps.{facts_after, event_after}
 use Rattle.headline.proofs.AuditLaws.{lawful_before}
 use Rattle.headline.proofs.Rising.{listed_rises}
-use Rattle.headline.specs.Methods.{IsCallStep, IsGrantedAt, comes_to, EffectIs, refused_with, DoesSo, Lists, IsJudged, MethodLaw}
-use Rattle.audit.specs.declared.rules.rule.Rule.TheVariants.{OutsideTable, TooLong, GlobalLocked}
+use Rattle.headline.specs.Methods.{IsCallStep, IsGrantedAt, comes_to, EffectIs, refused_with, DoesSo, Lists, IsJudged, MethodLaw, TellsRows, TellsAcl}
+use Rattle.audit.specs.declared.rules.rule.Rule.TheVariants.{OutsideTable, TooLong, GlobalLocked, ManyRandomBytes}
 use Rattle.audit.specs.declared.rules.rule.Rule.{Rule}
+use Rattle.methods.specs.Said.{reply_of}
 
 -- a ComID of sessions has 16 bits
 com_id_fits : (com_id : ℕ) → is_session_com_id com_id ≡ true → com_id % 65536 ≡ com_id
@@ -186,6 +186,47 @@ gives_cells s object first last valid =
     by_kind true v = by_room _ _ v
     by_kind false v = absurd (cc)
 
+-- what a Next and a GetACL tell
+gives_told : (b : Bool) (results : List Tree)
+    → takes_effect (if b then Gives results else Refuses response_overflow TooLong) ≡ true
+    → (if b then Gives results else Refuses response_overflow TooLong) ≡ Gives results
+gives_told true results v = refl
+gives_told false results v = absurd (cc)
+
+gives_rows : (s : Standing) (object : Uid) (after : Option Uid) (count : Option ℕ)
+    → takes_effect (does s object (Next after count)) ≡ true
+    → (rows : List Uid) × (rows_asked after count (rows_of_table s.sp (table_of object)) ≡ Some rows)
+    × (does s object (Next after count) ≡ Gives (uids_tree rows ∷ []))
+gives_rows s object after count valid = by_kind (has_ask (kind_of s.sp object) (Next after count)) valid
+  where
+    by_rows : (x : Option (List Uid)) → takes_effect (rows_told s.room x) ≡ true
+        → (rows : List Uid) × (x ≡ Some rows) × (rows_told s.room x ≡ Gives (uids_tree rows ∷ []))
+    by_rows None v = absurd (cc)
+    by_rows (Some rows) v = (rows, refl, gives_told _ _ v)
+
+    by_kind : (b : Bool) → takes_effect (does_ask s object (if b then Next after count else Other)) ≡ true
+        → (rows : List Uid) × (rows_asked after count (rows_of_table s.sp (table_of object)) ≡ Some rows)
+        × (does_ask s object (if b then Next after count else Other) ≡ Gives (uids_tree rows ∷ []))
+    by_kind true v = by_rows (rows_asked after count (rows_of_table s.sp (table_of object))) v
+    by_kind false v = absurd (cc)
+
+gives_acl : (s : Standing) (object about what : Uid)
+    → takes_effect (does s object (GetAcl about what)) ≡ true
+    → (acl : List Uid) × (acl_at s.profile s.sp about what ≡ Some acl)
+    × (does s object (GetAcl about what) ≡ Gives (uids_tree acl ∷ []))
+gives_acl s object about what valid = by_kind (has_ask (kind_of s.sp object) (GetAcl about what)) valid
+  where
+    by_acl : (x : Option (List Uid)) → takes_effect (acl_told s.room x) ≡ true
+        → (acl : List Uid) × (x ≡ Some acl) × (acl_told s.room x ≡ Gives (uids_tree acl ∷ []))
+    by_acl None v = absurd (cc)
+    by_acl (Some acl) v = (acl, refl, gives_told _ _ v)
+
+    by_kind : (b : Bool) → takes_effect (does_ask s object (if b then GetAcl about what else Other)) ≡ true
+        → (acl : List Uid) × (acl_at s.profile s.sp about what ≡ Some acl)
+        × (does_ask s object (if b then GetAcl about what else Other) ≡ Gives (uids_tree acl ∷ []))
+    by_kind true v = by_acl (acl_at s.profile s.sp about what) v
+    by_kind false v = absurd (cc)
+
 -- what takes effect, method by method
 by_room : (f : Facts) (session : Begun) (b : Bool) (results : List Tree)
     → (outcome_of f.rows session.sp (if b then Gives results else Refuses response_overflow TooLong)).deed ≡ Unchanged
@@ -199,17 +240,17 @@ by_setting : (f : Facts) (session : Begun) (found : Result Setting Rule)
 by_setting f session (Err rule) valid = absurd (cc)
 by_setting f session (Ok set) valid = (set, refl, refl)
 
-rows_deed : (f : Facts) (session : Begun) (byte : ℕ → ℕ) (size first last : ℕ)
-    → (outcome_of f.rows session.sp (rows_given byte size first last)).deed ≡ Unchanged
-rows_deed f session byte size first last =
+rows_deed : (f : Facts) (session : Begun) (room : ℕ) (byte : ℕ → ℕ) (size first last : ℕ)
+    → (outcome_of f.rows session.sp (rows_given room byte size first last)).deed ≡ Unchanged
+rows_deed f session room byte size first last =
     by_tests
     ((size == 0) || (nat_le size last || nat_lt last first))
-    (nat_lt most_response (last + 1 - first))
+    (nat_lt room (last + 1 - first))
   where
     by_tests : (a b : Bool)
         → (outcome_of f.rows session.sp (if a then Refuses invalid_parameter OutsideTable
         else (if b then Refuses response_overflow TooLong
-        else gives (bytes_between byte first last)))).deed ≡ Unchanged
+        else gives room (bytes_between byte first last)))).deed ≡ Unchanged
     by_tests true b = refl
     by_tests false true = refl
     by_tests false false = by_room f session _ _
@@ -259,15 +300,24 @@ reverts_sp_deed f session true true false valid = absurd (cc)
 reverts_sp_deed f session false true false valid = (λ e. refl, refl)
 reverts_sp_deed f session locked false false valid = (λ e. absurd (cc), refl)
 
-told_deed : (f : Facts) (session : Begun) (x : Option (List Uid))
-    → (outcome_of f.rows session.sp (rows_told x)).deed ≡ Unchanged
-told_deed f session None = refl
-told_deed f session (Some rows) = by_room f session _ _
+told_deed : (f : Facts) (session : Begun) (room : ℕ) (x : Option (List Uid))
+    → (outcome_of f.rows session.sp (rows_told room x)).deed ≡ Unchanged
+told_deed f session room None = refl
+told_deed f session room (Some rows) = by_room f session _ _
 
-acl_deed : (f : Facts) (session : Begun) (x : Option (List Uid))
-    → (outcome_of f.rows session.sp (acl_told x)).deed ≡ Unchanged
-acl_deed f session None = refl
-acl_deed f session (Some acl) = by_room f session _ _
+acl_deed : (f : Facts) (session : Begun) (room : ℕ) (x : Option (List Uid))
+    → (outcome_of f.rows session.sp (acl_told room x)).deed ≡ Unchanged
+acl_deed f session room None = refl
+acl_deed f session room (Some acl) = by_room f session _ _
+
+draws_deed : (f : Facts) (session : Begun) (count : ℕ) (many fit : Bool) (results : List Tree)
+    → takes_effect (if many then Refuses invalid_parameter ManyRandomBytes
+    else (if fit then Draws count results else Refuses response_overflow TooLong)) ≡ true
+    → (outcome_of f.rows session.sp (if many then Refuses invalid_parameter ManyRandomBytes
+    else (if fit then Draws count results else Refuses response_overflow TooLong))).deed ≡ Drew count
+draws_deed f session count true fit results valid = absurd (cc)
+draws_deed f session count false true results valid = refl
+draws_deed f session count false false results valid = absurd (cc)
 
 effect_is : (f : Facts) (session : Begun) (object : Uid) (ask : Ask) (has : Bool)
     → takes_effect (does_ask (standing f session) object (if has then ask else Other)) ≡ true
@@ -278,7 +328,7 @@ effect_is f session object (GetCells first last) true valid = by_room f session 
 effect_is f session object (GetBytes first last) true valid =
     let table = byte_table_of (kind_of session.sp object) in
     let sizes = (standing f session).sizes in
-    rows_deed f session (λ row. (standing f session).byte (table_begin sizes table + row)) (bytes_of_table sizes table) first _
+    rows_deed f session (standing f session).room (λ row. (standing f session).byte (table_begin sizes table + row)) (bytes_of_table sizes table) first _
 effect_is f session object (SetCells values) true valid = by_setting f session _ valid
 effect_is f session object (SetBytes at content) true valid = by_setting f session _ valid
 effect_is f session object (Authenticate authority pin) true valid =
@@ -289,9 +339,10 @@ effect_is f session object Revert true valid = reverts_deed f session _ _ valid
 effect_is f session object GenKey true valid = erases_deed f session (key_number object) _ valid
 effect_is f session object (RevertSp keep) true valid = reverts_sp_deed f session (is_wholly_locked (f.rows_of session.number)) keep _ valid
 effect_is f session object (Next after count) true valid =
-    told_deed f session (rows_asked after count (rows_of_table session.sp (table_of object)))
+    told_deed f session (standing f session).room (rows_asked after count (rows_of_table session.sp (table_of object)))
 effect_is f session object (GetAcl about what) true valid =
-    acl_deed f session (acl_at f.config.profile session.sp about what)
+    acl_deed f session (standing f session).room (acl_at f.config.profile session.sp about what)
+effect_is f session object (Random count) true valid = draws_deed f session count _ _ _ valid
 effect_is f session object Other true valid = absurd (cc)
 
 judged_so_far : (o : Origin) (before : List Step) (step : Step) (session : Begun)
@@ -309,6 +360,8 @@ judged_so_far o before step session object method args ask h c shaped = record {
       (has_ask (kind_of session.sp (uid_of object)) ask) valid;
   refused = λ bare. refused_by bare (judges.denied bare);
   listed = lists;
+  rows_told = tells_rows;
+  acl_told = tells_acl;
 }
   where
     f : Facts
@@ -369,6 +422,33 @@ judged_so_far o before step session object method args ask h c shaped = record {
       rises = listed_rises (standing f session).profile (standing f session).rows session.sp (uid_of object) first last
           (standing f session).held;
     }
+
+    told_as : (a : Ask) (results : List Tree) → ask ≡ a → takes_effect (comes_to o before session object ask) ≡ true
+        → IsGrantedAt o before session object method ask
+        → does (standing f session) (uid_of object) a ≡ Gives results
+        → event_after tcg o before step ≡ Some (answers c.com_id c.frame.session (says Unchanged (reply_of results success)))
+    told_as a results is valid granted gives =
+        here ∙ ap Some ((law valid).1 granted)
+        ∙ ap (λ (j : Judgement). Some (answers c.com_id c.frame.session (outcome_of f.rows session.sp j)))
+        (ap (does (standing f session) (uid_of object)) is ∙ gives)
+
+    tells_rows : (after : Option Uid) (count : Option ℕ) → ask ≡ Next after count
+        → takes_effect (comes_to o before session object ask) ≡ true
+        → IsGrantedAt o before session object method ask
+        → TellsRows o before step session object method args c after count
+    tells_rows after count is valid granted =
+        let told = gives_rows (standing f session) (uid_of object) after count
+        (subst (λ (a : Ask). takes_effect (does (standing f session) (uid_of object) a) ≡ true) is valid) in
+        record { rows = told.0; asked_for = told.1; says = told_as (Next after count) (uids_tree told.0 ∷ []) is valid granted told.2 }
+
+    tells_acl : (about what : Uid) → ask ≡ GetAcl about what
+        → takes_effect (comes_to o before session object ask) ≡ true
+        → IsGrantedAt o before session object method ask
+        → TellsAcl o before step session object method args c about what
+    tells_acl about what is valid granted =
+        let told = gives_acl (standing f session) (uid_of object) about what
+        (subst (λ (a : Ask). takes_effect (does (standing f session) (uid_of object) a) ≡ true) is valid) in
+        record { acl = told.0; line = told.1; says = told_as (GetAcl about what) (uids_tree told.0 ∷ []) is valid granted told.2 }
 
 pub method_law : MethodLaw
 method_law o all h later before step session object method args ask place c shaped =

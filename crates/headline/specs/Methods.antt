@@ -1,13 +1,16 @@
 -- Methods, over every lawful list of steps: a call of a right shape with valid values takes effect,
 -- and a column is listed, exactly where an access entry that names it holds of the session's
 -- authorities in its view.
-use Rattle.std.specs.Prelude.{◌++◌, ◌≡◌, ◌↔◌, ◌<◌, ℕ, true, false, List, [], ◌∷◌, map, Some, None, Ok}
+use Rattle.std.specs.Prelude.{◌++◌, ◌≡◌, ◌↔◌, ◌<◌, ℕ, true, false, List, [], ◌∷◌, map, Option, Some, None, Ok}
 use Rattle.sp_cells.specs.declared.cells.Cell.{Cell}
 use Rattle.sp_cells.specs.declared.names.Column.{Column}
 use Rattle.sp_cells.specs.declared.names.Sp.TheVariants.{Admin, Locking}
 use Rattle.sp_cells.specs.declared.names.Uid.{Uid}
 use Rattle.sp_cells.specs.ColumnNames.{pin_column}
-use Rattle.sp_cells.specs.Names.{c_pin_sid}
+use Rattle.sp_cells.specs.Names.{c_pin_sid, table_of}
+use Rattle.sp_tables.specs.RowNames.{rows_of_table}
+use Rattle.ace_eval.specs.Aces.{acl_at}
+use Rattle.methods.specs.Tables.{rows_asked, uids_tree}
 use Rattle.audit.specs.declared.reason.Why.{Why}
 use Rattle.compacket.specs.Frames.{Frame, reading as frame_in}
 use Rattle.tcg_tokens.specs.Message.{call}
@@ -16,7 +19,7 @@ use Rattle.trusted_cmds.specs.declared.command.Command.TheVariants.{Send}
 use Rattle.tcg_calls.specs.Asks.{uid_of}
 use Rattle.tcg_calls.specs.Statuses.{success, not_authorized}
 use Rattle.tcg_calls.specs.declared.call_shapes.ask.Ask.{Ask}
-use Rattle.tcg_calls.specs.declared.call_shapes.ask.Ask.TheVariants.{GetCells, GetBytes, SetCells, SetBytes, Authenticate, Activate, Revert, GenKey, RevertSp, Next, GetAcl, Other}
+use Rattle.tcg_calls.specs.declared.call_shapes.ask.Ask.TheVariants.{GetCells, GetBytes, SetCells, SetBytes, Authenticate, Activate, Revert, GenKey, RevertSp, Next, GetAcl, Random, Other}
 use Rattle.shadow_mbr.specs.Erasure.{no_sectors, all_sectors}
 use Rattle.sp_cells.specs.Numbers.{key_number}
 use Rattle.methods.specs.Erasures.{erased_by_key, erased_by_revert_sp, is_wholly_locked}
@@ -26,7 +29,7 @@ use Rattle.methods.specs.Said.{reply_of}
 use Rattle.sessions.specs.Attempts.{attempt_failure as failure_of, credential}
 use Rattle.sessions.specs.Starts.{is_in_use}
 use Rattle.methods.specs.Effects.{sp_of_row}
-use Rattle.sessions.specs.Deeds.{Setting, Sets, Outcome, says, Attempt, SessionDeed, Unchanged, Tried, Changed, Activated, Reverted, Erased, Begun}
+use Rattle.sessions.specs.Deeds.{Setting, Sets, Outcome, says, Attempt, SessionDeed, Unchanged, Tried, Changed, Activated, Reverted, Erased, Drew, Begun}
 use Rattle.methods.specs.Judgement.{Judgement, Standing, asked, does, to_set}
 use Rattle.history.specs.Decisions.{is_session_com_id}
 use Rattle.history.specs.Tcg.{takes_blocks, answers, is_manager, tcg, item_in}
@@ -87,7 +90,8 @@ comes_to o before session object ask = does (standing_at o before session) (uid_
 -- reverts the SP of the row, and erases all sectors where the Locking SP is in use, and else none;
 -- GenKey erases the sectors of the range whose key the object is, by the rows in force; RevertSP reverts
 -- the Locking SP, and erases all sectors, or those of the numbered ranges by the rows in force before
--- it, where it keeps the global range, which then is not locked both ways.
+-- it, where it keeps the global range, which then is not locked both ways; Random gives so many random
+-- bytes, which are given to no other call.
 abbrev pub EffectIs : Facts → Begun → Uid → Ask → SessionDeed → Type 0
 EffectIs f session object (GetCells first last) deed = deed ≡ Unchanged
 EffectIs f session object (GetBytes first last) deed = deed ≡ Unchanged
@@ -101,7 +105,7 @@ EffectIs f session object (Authenticate authority pin) deed =
     (attempt : Attempt) × (deed ≡ Tried attempt)
     × (attempt.sp ≡ session.sp) × (attempt.authority ≡ authority)
     × (attempt.row ≡ credential f.rows session.sp authority)
-    × (attempt.failure ≡ failure_of f.block f.rows session.sp authority pin)
+    × (attempt.failure ≡ failure_of f.beside.block f.rows session.sp authority pin)
 EffectIs f session object Activate deed =
     (is_in_use f.rows Locking ≡ true → deed ≡ Unchanged)
     × (is_in_use f.rows Locking ≡ false → deed ≡ Activated (f.rows Admin c_pin_sid pin_column))
@@ -115,6 +119,7 @@ EffectIs f session object (RevertSp keep) deed =
     × (deed ≡ Reverted Locking (erased_by_revert_sp f.rows keep))
 EffectIs f session object (Next after count) deed = deed ≡ Unchanged
 EffectIs f session object (GetAcl about what) deed = deed ≡ Unchanged
+EffectIs f session object (Random count) deed = deed ≡ Drew count
 EffectIs f session object Other deed = ⊥
 
 -- A call that is refused for want of an entry: it changes nothing, and is answered NOT_AUTHORIZED,
@@ -143,9 +148,31 @@ pub record Lists (o : Origin) (before : List Step) (step : Step) (session : Begu
       session.sp (uid_of object) first last (standing_at o before session).held column cell
   pub rises : are_rising (map (λ (pair : Column × Cell). pair.0) cells) ≡ true
 
+-- The rows that a Next tells: all those of the table in the session's SP, in their order, or those behind the row that it
+-- names, and no more of them than its count. The ACEs that a GetACL tells: those of the line of the access list.
+pub record TellsRows (o : Origin) (before : List Step) (step : Step) (session : Begun)
+    (object method : List ℕ) (args : Trees)
+    (c : IsCallStep o before step session object method args)
+    (after : Option Uid) (count : Option ℕ) : Type 0 where
+  pub rows : List Uid
+  pub asked_for : rows_asked after count (rows_of_table session.sp (table_of (uid_of object)))
+      ≡ Some rows
+  pub says : event_after tcg o before step
+      ≡ Some (answers c.com_id c.frame.session
+      (says Unchanged (reply_of (uids_tree rows ∷ []) success)))
+
+pub record TellsAcl (o : Origin) (before : List Step) (step : Step) (session : Begun)
+    (object method : List ℕ) (args : Trees)
+    (c : IsCallStep o before step session object method args) (about what : Uid) : Type 0 where
+  pub acl : List Uid
+  pub line : acl_at o.tables.config.profile session.sp about what ≡ Some acl
+  pub says : event_after tcg o before step
+      ≡ Some (answers c.com_id c.frame.session
+      (says Unchanged (reply_of (uids_tree acl ∷ []) success)))
+
 -- Of a call of the right shape: with valid values it takes effect exactly where it is granted, and
--- then does what its method says; where it is not granted it is refused; and a Get that takes effect
--- lists exactly what has an entry.
+-- then does what its method says; where it is not granted it is refused; a Get that takes effect lists
+-- exactly what has an entry, and a Next and a GetACL tell the rows and the ACEs that there are.
 pub record IsJudged (o : Origin) (before : List Step) (step : Step) (session : Begun)
     (object method : List ℕ) (args : Trees)
     (c : IsCallStep o before step session object method args) (ask : Ask) : Type 0 where
@@ -163,6 +190,14 @@ pub record IsJudged (o : Origin) (before : List Step) (step : Step) (session : B
       → takes_effect (comes_to o before session object ask) ≡ true
       → IsGrantedAt o before session object method ask
       → Lists o before step session object method args c first last
+  pub rows_told : (after : Option Uid) (count : Option ℕ) → ask ≡ Next after count
+      → takes_effect (comes_to o before session object ask) ≡ true
+      → IsGrantedAt o before session object method ask
+      → TellsRows o before step session object method args c after count
+  pub acl_told : (about what : Uid) → ask ≡ GetAcl about what
+      → takes_effect (comes_to o before session object ask) ≡ true
+      → IsGrantedAt o before session object method ask
+      → TellsAcl o before step session object method args c about what
 
 -- Each call of a right shape among the steps of a list.
 abbrev pub AreJudged : Origin → List Step → Type 0

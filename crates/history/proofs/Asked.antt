@@ -10,17 +10,17 @@ use Rattle.basics.specs.declared.profile.Profile.TheVariants.{Base, Field, Opal}
 use Rattle.sp_cells.specs.declared.names.Uid.{Uid}
 use Rattle.sp_cells.specs.declared.names.Sp.{Sp}
 use Rattle.sp_cells.specs.declared.names.Sp.TheVariants.{Admin, Locking}
-use Rattle.sp_cells.specs.Names.{get, set, authenticate, activate, revert, gen_key, revert_sp, next, get_acl, uid}
+use Rattle.sp_cells.specs.Names.{get, set, authenticate, activate, revert, gen_key, revert_sp, next, get_acl, uid, random}
 use Rattle.sp_cells.specs.Authorities.{authorities_of_locking}
 use Rattle.sp_cells.specs.Flat.{sp_eq}
 use Rattle.ace_eval.specs.Access.{Grant, access_list, acl_in, this_sp_grants, owner_grants, label_grants, removal_grants, authority_grants, fixed_ace_gets, user_ace_grants, read_locked_ace_grants, write_locked_ace_grants, done_ace_grants, pin_grants, range_get_ace_grants, range_get_grants, range_set_grants, mbr_grants, info_grants, datastore_grants, key_grants, gen_key_ace_grants, own_grants, listed_grants, told_grants, method_grants, maker_grants, name_grants, mode_grants}
-use Rattle.tcg_tokens.specs.Tree.{Tree, Trees}
+use Rattle.tcg_tokens.specs.Tree.{Tree, Trees, number, bytes, list, named}
 use Rattle.tcg_tokens.specs.Tree as tree
 use Rattle.tcg_calls.specs.Parameters.{start_row_parameter, end_row_parameter, start_column_parameter, end_column_parameter, where_parameter, values_parameter, next_where_parameter, next_count_parameter, proof_parameter, keep_global_range_key_parameter}
 use Rattle.tcg_calls.specs.Named.{values_of, list_in, assignments, value_of, options, number_or, number_if_any, bytes_or_empty}
-use Rattle.tcg_calls.specs.Asks.{uid_of, uid_in, is_byte_table, cellblock, columns_between, columns_asked_in, is_ordered, rows_between, rows_in, cells_of, cells_to_set, cells_in, bytes_to_set, bytes_in, proof_of, proof_in, attempt_in, without_arguments, get_of, set_of, keep_of, keep_in, row_if_any, rows_asked_behind, next_in, line_asked, get_acl_of, other_ask_of, ask_of}
+use Rattle.tcg_calls.specs.Asks.{uid_of, uid_in, is_byte_table, cellblock, columns_between, columns_asked_in, is_ordered, rows_between, rows_in, cells_of, cells_to_set, cells_in, bytes_to_set, bytes_in, proof_of, proof_in, attempt_in, without_arguments, get_of, set_of, keep_of, keep_in, row_if_any, rows_asked_behind, next_in, line_asked, get_acl_of, other_ask_of, ask_of, random_of}
 use Rattle.tcg_calls.specs.declared.call_shapes.ask.Ask.{Ask}
-use Rattle.tcg_calls.specs.declared.call_shapes.ask.Ask.TheVariants.{GetCells, GetBytes, SetCells, SetBytes, Authenticate, Activate, Revert, GenKey, RevertSp, Next, GetAcl, Other}
+use Rattle.tcg_calls.specs.declared.call_shapes.ask.Ask.TheVariants.{GetCells, GetBytes, SetCells, SetBytes, Authenticate, Activate, Revert, GenKey, RevertSp, Next, GetAcl, Other, Random}
 use Rattle.methods.specs.Judgement.{asked}
 use Rattle.history.specs.Deeds.{is_set_in_admin}
 

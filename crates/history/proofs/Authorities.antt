@@ -13,7 +13,7 @@ use Rattle.std.specs.Prelude.{is_some, map, filter}
 use Rattle.std.specs.List.{flat_map}
 use Rattle.tcg_tokens.specs.Tree.{list, trees_of}
 use Rattle.tcg_calls.specs.declared.call_shapes.ask.Ask.{Ask}
-use Rattle.tcg_calls.specs.declared.call_shapes.ask.Ask.TheVariants.{GetCells, GetBytes, SetCells, SetBytes, Authenticate, Activate, Revert, GenKey, RevertSp, Next, GetAcl, Other}
+use Rattle.tcg_calls.specs.declared.call_shapes.ask.Ask.TheVariants.{GetCells, GetBytes, SetCells, SetBytes, Authenticate, Activate, Revert, GenKey, RevertSp, Next, GetAcl, Other, Random}
 use Rattle.std.specs.Option.{option_or}
 use Rattle.methods.specs.Kinds.{kind_of}
 use Rattle.methods.specs.Columns.{columns_of}

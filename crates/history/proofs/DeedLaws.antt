@@ -26,7 +26,7 @@ use Rattle.sp_cells.specs.ColumnNames.{pin_column}
 use Rattle.sessions.specs.Attempts.{attempt_failure as failure_of}
 use Rattle.tcg_calls.specs.Asks.{uid_of}
 use Rattle.tcg_calls.specs.Statuses.{fail, success}
-use Rattle.sessions.specs.Properties.{properties_message}
+use Rattle.sessions.specs.Properties.{properties_message, host_told, told_deed}
 use Rattle.tcg_calls.specs.Carried.{is_carried}
 use Rattle.methods.specs.declared.kinds.Kind.{Kind}
 use Rattle.methods.specs.declared.kinds.Kind.TheVariants as kinds
@@ -44,7 +44,7 @@ use Rattle.methods.specs.Said.{reply_of, refusal_of}
 use Rattle.tcg_calls.specs.Limits.{most_response}
 use Rattle.methods.specs.Effects.{has_ask, last_row, unless_fault, sp_of_row}
 use Rattle.sp_cells.specs.declared.values.ColumnType.{ColumnType}
-use Rattle.methods.specs.Judgement.{asked, Standing, Judgement, Refuses, Gives, Makes, Attempts, Activates, Reverts, Erases, RevertsSp, erases, reverts_sp, denial, gives, listing, bytes_between, rows_given, fault_by, valid, to_set, makes, unless_open, does_ask, does, unless_denied, judged, Denies, rows_told, acl_told}
+use Rattle.methods.specs.Judgement.{asked, Standing, Judgement, Refuses, Gives, Makes, Attempts, Activates, Reverts, Erases, RevertsSp, erases, reverts_sp, denial, gives, listing, bytes_between, rows_given, fault_by, valid, to_set, makes, unless_open, does_ask, does, unless_denied, judged, Denies, rows_told, acl_told, Draws, draws, fits}
 use Rattle.sessions.specs.declared.opening.Opening.{Opening}
 use Rattle.sessions.specs.declared.opening.StartVerdict.{StartVerdict}
 use Rattle.sessions.specs.declared.opening.StartVerdict.TheVariants.{Refused, Attempted}
@@ -53,13 +53,13 @@ use Rattle.sessions.specs.Starts.{opening_of, is_in_use, sp_named, is_full, open
 use Rattle.tcg_calls.specs.Named.{values_of}
 use Rattle.sp_cells.specs.Flat.{LookUp, sp_eq}
 use Rattle.tcg_calls.specs.declared.call_shapes.ask.Ask.{Ask}
-use Rattle.tcg_calls.specs.declared.call_shapes.ask.Ask.TheVariants.{GetCells, GetBytes, SetCells, SetBytes, Authenticate, Activate, Revert, GenKey, RevertSp, Next, GetAcl, Other}
+use Rattle.tcg_calls.specs.declared.call_shapes.ask.Ask.TheVariants.{GetCells, GetBytes, SetCells, SetBytes, Authenticate, Activate, Revert, GenKey, RevertSp, Next, GetAcl, Other, Random}
 use Rattle.history.specs.Events.{Deed, Nothing, InSession, OfQueue, Wrote, Took, BlockedSid, Chose, WasReset, Event}
 use Rattle.sp_tables.specs.Looks.{RowLook}
 use Rattle.history.specs.Changes.{with_tries}
-use Rattle.history.specs.Readers.{view, tries, rows_within, rows_after, living, lives_by, restores, session_on, open_on, is_of, in_force}
+use Rattle.history.specs.Readers.{view, tries, rows_within, rows_after, living, lives_by, restores, session_on, open_on, is_of, in_force, beside}
 use Rattle.history.specs.Facts.{facts, numbered, live, has_open, standing}
-use Rattle.history.specs.Tcg.{start_verdict, deed_of_start, start_deed, started, is_method_of_manager, to_manager, judgement_on, begins_on, transaction_end, ends_on, in_session}
+use Rattle.history.specs.Tcg.{start_verdict, deed_of_start, start_deed, started, is_method_of_manager, to_manager, judgement_on, begins_on, transaction_end, ends_on, in_session, properties_told}
 use Rattle.methods.specs.Calls.{tried_in, outcome_of}
 use Rattle.history.specs.Deeds.{IsIn, IsOutside, is_set_in_admin, is_of_row, is_inside, CanDo, DeedLaw}
 use Rattle.history.proofs.Words.{latest-here, latest-skip, sp-is, sp-same}
@@ -68,6 +68,8 @@ use Rattle.history.proofs.MethodProofs.{denial-none, granted-row}
 use Rattle.history.proofs.Asked.{is_own, own-of-field, gen-key-locking, revert-sp-locking, asked-own, activate-admin, revert-admin, set-in-admin}
 use Rattle.audit.specs.declared.rules.rule.Rule.TheVariants.{NoMethod, NotInUse, SpBusy, NoNumber, OutsideTable, TooLong, GlobalLocked, ManyRandomBytes}
 use Rattle.audit.specs.declared.rules.rule.Rule.{Rule}
+use Rattle.sessions.specs.declared.beside.HostLimits.{HostLimits}
+use Rattle.sessions.specs.Beside.{channel_of}
 
 -- the kinds of judgements, a refusal being 0, and of asks
 abbrev kind : Judgement → ℕ

@@ -29,7 +29,7 @@ use Rattle.sessions.specs.Attempts.{attempt_failure as failure_of}
 use Rattle.tcg_calls.specs.Asks.{uid_of}
 use Rattle.ace_eval.specs.Aces.{acl_at}
 use Rattle.sp_cells.specs.Names.{properties, start_session, table_of}
-use Rattle.sessions.specs.Deeds.{Begun, Setting, Unchanged, says, refuses as refuses_item}
+use Rattle.sessions.specs.Deeds.{Begun, Setting, Unchanged, says, refuses as refuses_item, StackTold}
 use Rattle.tcg_calls.specs.Statuses.{success, fail}
 use Rattle.sessions.specs.Properties.{properties_message}
 use Rattle.sessions.specs.declared.opening.Opening.{Opening}
@@ -47,23 +47,26 @@ use Rattle.sp_tables.specs.RowNames.{rows_of_table}
 use Rattle.methods.specs.Effects.{ask_at, last_row, sp_of_row}
 use Rattle.sp_cells.specs.Numbers.{key_number}
 use Rattle.methods.specs.Erasures.{is_wholly_locked}
-use Rattle.methods.specs.Judgement.{asked, Standing, Judgement, Refuses, Gives, Makes, Attempts, Activates, Reverts, Erases, RevertsSp, erases, reverts_sp, denial, gives, listing, bytes_between, rows_given, to_set, makes, unless_open, does_ask, does, unless_denied, judged, Denies, rows_told, acl_told}
+use Rattle.methods.specs.Judgement.{asked, Standing, Judgement, Refuses, Gives, Makes, Attempts, Activates, Reverts, Erases, RevertsSp, erases, reverts_sp, denial, gives, listing, bytes_between, rows_given, to_set, makes, unless_open, does_ask, does, unless_denied, judged, Denies, rows_told, acl_told, Draws, draws, fits}
 use Rattle.tcg_calls.specs.declared.call_shapes.ask.Ask.{Ask}
-use Rattle.tcg_calls.specs.declared.call_shapes.ask.Ask.TheVariants.{GetCells, GetBytes, SetCells, SetBytes, Authenticate, Activate, Revert, GenKey, RevertSp, Next, GetAcl, Other}
+use Rattle.tcg_calls.specs.declared.call_shapes.ask.Ask.TheVariants.{GetCells, GetBytes, SetCells, SetBytes, Authenticate, Activate, Revert, GenKey, RevertSp, Next, GetAcl, Other, Random}
 use Rattle.trusted_cmds.specs.BlockSid.{is_block_sid, block_asked, is_blocked}
 use Rattle.device_data.specs.Discovery.{has_owner}
-use Rattle.history.specs.Events.{Nothing, Wrote, Took, HeldCommand, Event, did, WasReset, BlockedSid, ignores}
+use Rattle.history.specs.Events.{Nothing, Wrote, Took, HeldCommand, Event, did, WasReset, BlockedSid, ignores, Silent, InSession}
 use Rattle.history.specs.Facts.{Facts, session_named, has_open, standing}
-use Rattle.history.specs.Decisions.{not_found, fails, refuses, aborted, fails_queue, on_drive, verdict_on, queued_by, admitted, unqueued_by, is_trusted, is_session_com_id, discovery_com_id, received, while_failed, is_busy, completed_by, completed, resets, is_received, unreceived}
-use Rattle.history.specs.Tcg.{answers, breaks_off, broken_off, is_discarded, manager_event, start_verdict, started_by, started, is_method_of_manager, to_manager, judgement_on, begins_on, ends_on, in_session, is_manager, to_session, framed, sent, unqueued, known, commanded, tcg, command_read, item_in, blocks_sid, send_item, send, unsent, is_sent}
+use Rattle.history.specs.Decisions.{not_found, fails, refuses, aborted, fails_queue, on_drive, verdict_on, queued_by, admitted, unqueued_by, is_trusted, is_session_com_id, discovery_com_id, received, while_failed, is_busy, completed_by, completed, resets, is_received, unreceived, asks_stack}
+use Rattle.history.specs.Tcg.{answers, breaks_off, broken_off, is_discarded, manager_event, start_verdict, started_by, started, is_method_of_manager, to_manager, judgement_on, begins_on, ends_on, in_session, is_manager, to_session, framed, sent, unqueued, known, commanded, tcg, command_read, item_in, blocks_sid, send_item, send, unsent, is_sent, properties_told, unframed, unframed_in, broken_of, sent_by, stack_reset, stack_kept, stack_sent, send_other}
 use Rattle.methods.specs.Calls.{tried_in, outcome_of}
 use Rattle.history.specs.History.{Act, Accept, Complete, Reset, SoftwareReset, event_by}
 use Rattle.history.specs.MethodLaws.{IsLookedAt, IsSent, IsCall}
 use Rattle.history.specs.DenialLaws.{Moves, read_queued, write_queued, read_dma, write_dma, IsFree, TransferDenied, MethodDenied, AttemptDenied, StartDenied, IsDenied, DenialLaw}
 use Rattle.history.proofs.MethodProofs.{looked_event, looked_law, sent_law, call_law}
 use Rattle.sp_cells.specs.Resets.{programmatic}
-use Rattle.audit.specs.declared.rules.rule.Rule.TheVariants.{NoCommand, Unreadable, Mixed, BeyondDrive, SidKept, NoMethod, OutsideTable, TooLong, GlobalLocked, NoFrame, Discarded}
+use Rattle.audit.specs.declared.rules.rule.Rule.TheVariants.{NoCommand, Unreadable, Mixed, BeyondDrive, SidKept, NoMethod, OutsideTable, TooLong, GlobalLocked, NoFrame, Discarded, BrokenOff, ManyRandomBytes}
 use Rattle.audit.specs.declared.rules.rule.Rule.{Rule}
+use Rattle.basics.specs.Profiles.{has_opal}
+use Rattle.compacket.specs.declared.session.Named.{Named}
+use Rattle.device_data.specs.StackReset.{is_stack_reset}
 
 -- forward: each of the four is denied for its reason
 

@@ -1,5 +1,5 @@
 -- A StartSession comes to the same by what is kept and by the past.
-use Rattle.std.proofs.Common.{◌≡◌, ℕ, ◌==◌, Bool, true, false, not, ◌||◌, map, nat_eq, List, [], ◌∷◌, ◌++◌, Option, Some, None, refl, sym, ◌∙◌, ap, cond, subst, inl, inr, eq-eqb}
+use Rattle.std.proofs.Common.{◌≡◌, ℕ, ◌==◌, Bool, true, false, not, ◌||◌, ◌&&◌, map, nat_eq, List, [], ◌∷◌, ◌++◌, Option, Some, None, refl, sym, ◌∙◌, ap, cond, subst, inl, inr, eq-eqb}
 use Rattle.std.specs.Prelude.{is_some, nat_lt}
 use Rattle.std.specs.List.{list_any}
 use Rattle.std.specs.Map.{lookup}
@@ -23,20 +23,20 @@ use Rattle.sessions.specs.declared.opening.StartVerdict.TheVariants.{Refused, At
 use Rattle.sessions.specs.Attempts.{attempt_failure as failure_of, credential}
 use Rattle.sessions.specs.Answers.{rows_in_force, up}
 use Rattle.sessions.specs.Gains.{first_held}
-use Rattle.sessions.specs.Live.{Holder, Live, session_at, lives_on, AreNumbered}
+use Rattle.sessions.specs.Live.{Holder, Live, session_at, is_of, lives_on, lives_of, AreNumbered, AreNumberedOf}
 use Rattle.sessions.specs.Starts.{opening_of, sp_named, is_in_use, is_full, opening_verdict_on, verdict, host_of, reply_to, denied_with, rule_of, stored_by, stored_with, begun_by, begun_with, next_by, start_reply, start_denied, start_rule, start_stored}
 use Rattle.history.specs.Opening.{Origin}
 use Rattle.shadow_mbr.specs.Erasure.{no_sectors}
 use Rattle.sessions.specs.Deeds.{Begun, erased_by}
 use Rattle.history.specs.Events.{Event}
 use Rattle.history.specs.Readers.{session_on, beside}
-use Rattle.history.specs.Facts.{Facts, facts, numbered, live}
+use Rattle.history.specs.Facts.{Facts, facts, numbered, live, is_on_com_id}
 use Rattle.history.specs.Tcg.{start_verdict, deed_of_start, start_deed, started_by}
 use Rattle.sessions.specs.Made.{with_count, StoresAs, gains_on, LivesAs, Meets}
 use Rattle.history.specs.KeptSessions.{session_numbered, KeepsSessions}
 use Rattle.history.specs.KeptCalls.{StartLaw}
 use Rattle.history.specs.KeptStore.{KeepsStore}
-use Rattle.history.proofs.Words.{sp-same}
+use Rattle.history.proofs.Words.{sp-is, sp-same}
 use Rattle.history.proofs.KeptStoreReads.{store_read_law}
 use Rattle.history.proofs.KeptSessionsNumbers.{Hits, split, numbered-miss, numbered-hit, none-apart, kept-none, Kept, kept-some}
 use Rattle.audit.specs.declared.rules.rule.Rule.TheVariants.{NotInUse, SpBusy, NoNumber}
@@ -86,6 +86,56 @@ lives-past past l sp k are = by_both (lives_on sp l) (session_on past sp) refl r
     by_both false None at is = refl
     by_both false (Some s) at is = sym at ∙ lives-kept past l sp s k is
     by_both true None at is = let found = are sp at in sym (kept-lives past l sp k found.0 found.1 found.2 found.3) ∙ ap is_some is
+
+-- the session of an SP that is on a ComID
+any-of : (p : Holder → Bool) (h : Holder) (n : ℕ) (e : ℕ × Holder) (es : List (ℕ × Holder)) (b : Bool) → p h ≡ true → (lookup (nat_eq n) es ≡ Some h → list_any p (map (λ e. e.1) es) ≡ true)
+    → cond b (Some e.1) (lookup (nat_eq n) es) ≡ Some h → list_any p (map (λ e. e.1) (e ∷ es)) ≡ true
+any-of p h n e es true on rest is = let same : e.1 ≡ h = cc in or_left (p e.1) (list_any p (map (λ e. e.1) es)) (ap p same ∙ on)
+any-of p h n e es false on rest is = or_right (p e.1) (list_any p (map (λ e. e.1) es)) (rest is)
+
+any-passes : (p : Holder → Bool) (h : Holder) (n : ℕ) (es : List (ℕ × Holder)) → p h ≡ true → lookup (nat_eq n) es ≡ Some h → list_any p (map (λ e. e.1) es) ≡ true
+any-passes p h n [] on is = absurd (none-apart is)
+any-passes p h n (e ∷ es) on is = any-of p h n e es (nat_eq n e.0) on (any-passes p h n es on) is
+
+of-kept : (past : List Event) (l : Live) (com_id : ℕ) (sp : Sp) (s : Begun) → KeepsSessions l past → session_on past sp ≡ Some s → (s.com_id == com_id) ≡ true → lives_of com_id sp l ≡ true
+of-kept past l com_id sp s k lives of =
+    let hit : Hits (session_on past) s.number = record { sp = sp; session = s; lives = lives; number = eq-eqb s.number s.number refl } in
+    let kept = kept-some past (session_at l s.number) (session_numbered past s.number) s (k.at s.number) (numbered-hit (session_on past) s.number k.apart hit) in
+    any-passes (is_of com_id sp) kept.holder s.number l.sessions
+    (ap (λ b. b && (kept.holder.com_id == com_id)) (ap (λ x. sp_eq x sp) (kept.keeps.sp ∙ k.on sp s lives) ∙ sp-same sp) ∙ ap (λ (n : ℕ). n == com_id) kept.keeps.com_id ∙ of) kept.is
+
+and-both : (a b : Bool) → (a && b) ≡ true → (a ≡ true) × (b ≡ true)
+and-both true b h = (refl, h)
+and-both false b h = cc
+
+kept-of : (past : List Event) (l : Live) (com_id : ℕ) (sp : Sp) → KeepsSessions l past → (n : ℕ) (h : Holder) → session_at l n ≡ Some h → is_of com_id sp h ≡ true → is_on_com_id com_id (session_on past sp) ≡ true
+kept-of past l com_id sp k n h is on = elim (split (session_on past) n) [
+  | inl hit ↦ by_hit hit (kept-some past (session_at l n) (session_numbered past n) hit.session (k.at n) (numbered-hit (session_on past) n k.apart hit))
+  | inr misses ↦ absurd (none-apart (sym (kept-none past (session_at l n) (session_numbered past n) (k.at n) (numbered-miss (session_on past) n misses)) ∙ is))
+]
+  where
+    by_hit : (hit : Hits (session_on past) n) → Kept past (session_at l n) hit.session → is_on_com_id com_id (session_on past sp) ≡ true
+    by_hit hit kept =
+        let parts = and-both (sp_eq h.sp sp) (h.com_id == com_id) on in
+        let same : kept.holder ≡ h = some-same (sym kept.is ∙ is) in
+        let its : hit.sp ≡ sp = sym (k.on hit.sp hit.session hit.lives) ∙ sym kept.keeps.sp ∙ ap (λ (g : Holder). g.sp) same ∙ sp-is h.sp sp parts.0 in
+        ap (λ x. is_on_com_id com_id (session_on past x)) (sym its) ∙ ap (is_on_com_id com_id) hit.lives
+        ∙ ap (λ (m : ℕ). m == com_id) (sym kept.keeps.com_id ∙ ap (λ (g : Holder). g.com_id) same) ∙ parts.1
+
+bool-same : (a b : Bool) → (a ≡ true → b ≡ true) → (b ≡ true → a ≡ true) → a ≡ b
+bool-same true b h g = sym (h refl)
+bool-same false true h g = g refl
+bool-same false false h g = refl
+
+on-some : (com_id : ℕ) (x : Option Begun) → is_on_com_id com_id x ≡ true → (s : Begun) × (x ≡ Some s) × ((s.com_id == com_id) ≡ true)
+on-some com_id None h = cc
+on-some com_id (Some s) h = (s, refl, h)
+
+pub of-past : (past : List Event) (l : Live) (com_id : ℕ) (sp : Sp) → KeepsSessions l past → AreNumberedOf l → lives_of com_id sp l ≡ is_on_com_id com_id (session_on past sp)
+of-past past l com_id sp k are =
+    bool-same (lives_of com_id sp l) (is_on_com_id com_id (session_on past sp))
+    (λ lives. let found = are com_id sp lives in kept-of past l com_id sp k found.0 found.1 found.2 found.3)
+    (λ on. let x = on-some com_id (session_on past sp) on in of-kept past l com_id sp x.0 k x.1 x.2)
 
 -- among the facts
 abbrev of_sp : Sp → Option Begun → Option Begun → Option Begun

@@ -15,8 +15,8 @@ use Rattle.sessions.specs.Attempts.{attempt_failure as failure_of, is_there, cre
 use Rattle.tcg_calls.specs.Asks.{uid_of}
 use Rattle.sessions.specs.Deeds.{Begun, SessionDeed, Unchanged, Tried, Activated, Outcome, says, refuses as refuses_item}
 use Rattle.tcg_calls.specs.Statuses.{fail}
-use Rattle.sessions.specs.Properties.{properties_message}
-use Rattle.methods.specs.Judgement.{Judgement, Refuses, Gives, Makes, Attempts, Activates, Reverts, Erases, RevertsSp, Denies}
+use Rattle.sessions.specs.Properties.{properties_message, host_told, told_deed}
+use Rattle.methods.specs.Judgement.{Judgement, Refuses, Gives, Makes, Attempts, Activates, Reverts, Erases, RevertsSp, Denies, Draws}
 use Rattle.sessions.specs.declared.opening.Opening.{Opening}
 use Rattle.sessions.specs.declared.opening.StartVerdict.{StartVerdict}
 use Rattle.sessions.specs.declared.opening.StartVerdict.TheVariants.{Refused, Attempted}
@@ -25,7 +25,7 @@ use Rattle.sessions.specs.Starts.{opening_of, is_in_use, sp_named, is_full, open
 use Rattle.tcg_calls.specs.Named.{values_of}
 use Rattle.sp_cells.specs.Flat.{LookUp}
 use Rattle.history.specs.Facts.{live, has_open, Facts}
-use Rattle.history.specs.Tcg.{start_verdict, deed_of_start, start_deed, started, is_method_of_manager, to_manager, judgement_on, begins_on, ends_on, in_session}
+use Rattle.history.specs.Tcg.{start_verdict, deed_of_start, start_deed, started, is_method_of_manager, to_manager, judgement_on, begins_on, ends_on, in_session, properties_told}
 use Rattle.methods.specs.Calls.{outcome_of}
 use Rattle.methods.specs.Said.{refusal_of}
 use Rattle.history.proofs.Items.{item-from, stack_deed}
@@ -33,6 +33,8 @@ use Rattle.sp_cells.specs.Ranges.{number}
 use Rattle.audit.specs.declared.reason.AttemptFailure.TheVariants.{WrongPin, LockedOut, Disabled, Blocked, Unknown}
 use Rattle.history.specs.TriesLaw.{is_below_limit, LimitLaw}
 use Rattle.audit.specs.declared.rules.rule.Rule.TheVariants.{NoMethod, NotInUse, SpBusy, NoNumber}
+use Rattle.sessions.specs.declared.beside.HostLimits.{HostLimits}
+use Rattle.sessions.specs.Beside.{channel_of}
 
 -- the tests of an attempt
 by-tests : (a b d c u p : Bool) → cond a (Some Unknown) (cond b (Some Disabled) (cond d (Some Blocked) (cond c None (cond u (Some LockedOut) (cond p None (Some WrongPin)))))) ≡ Some WrongPin → not u ≡ true

@@ -25,25 +25,26 @@ use Rattle.tcg_tokens.specs.Tree.{Tree}
 use Rattle.trusted_cmds.specs.declared.command.Command.{Command}
 use Rattle.trusted_cmds.specs.declared.command.Command.TheVariants.{Send}
 use Rattle.tcg_calls.specs.declared.call_shapes.ask.Ask.{Ask}
-use Rattle.tcg_calls.specs.declared.call_shapes.ask.Ask.TheVariants.{GetCells, GetBytes, SetCells, SetBytes, Authenticate, Activate, Revert, GenKey, RevertSp, Next, GetAcl, Other}
+use Rattle.tcg_calls.specs.declared.call_shapes.ask.Ask.TheVariants.{GetCells, GetBytes, SetCells, SetBytes, Authenticate, Activate, Revert, GenKey, RevertSp, Next, GetAcl, Other, Random}
 use Rattle.std.specs.Option.{option_or}
 use Rattle.methods.specs.Grants.{why_denied, unless_allowed, denial as denial_of, wanted, first_some}
 use Rattle.methods.specs.Laws.{EachHasAce, IsGranted, takes_effect}
 use Rattle.methods.proofs.GrantLaws.{grant_law as grants, effect_law as judges}
-use Rattle.methods.specs.Judgement.{Standing, Judgement, Refuses, Gives, Makes, Attempts, Activates, Reverts, Erases, RevertsSp, denial, does, unless_denied, judged, Denies}
+use Rattle.methods.specs.Judgement.{Standing, Judgement, Refuses, Gives, Makes, Attempts, Activates, Reverts, Erases, RevertsSp, denial, does, unless_denied, judged, Denies, Draws}
 use Rattle.trusted_cmds.specs.BlockSid.{is_block_sid}
 use Rattle.basics.specs.declared.profile.Profile.{Profile}
 use Rattle.history.specs.Events.{Event, Nothing, did, WasReset, ignores}
 use Rattle.history.specs.Items.{Items}
 use Rattle.history.specs.Facts.{Facts, standing, session_named}
-use Rattle.history.specs.Decisions.{admitted, fails_queue, refuses, aborted, while_failed, is_busy, resets, is_trusted, is_session_com_id, unqueued_of, known_of, commanded_of}
-use Rattle.history.specs.Tcg.{answers, item_event, manager_event, to_session, in_session, framed, sent, send, tcg, blocks_sid, send_item, unsent, is_free_for}
+use Rattle.history.specs.Decisions.{admitted, fails_queue, refuses, aborted, while_failed, is_busy, resets, is_trusted, is_session_com_id, unqueued_of, known_of, commanded_of, asks_stack}
+use Rattle.history.specs.Tcg.{answers, item_event, manager_event, to_session, in_session, framed, sent, send, tcg, blocks_sid, send_item, unsent, is_free_for, broken_of, sent_by, stack_sent, send_other}
 use Rattle.methods.specs.Calls.{outcome_of, tried_in}
 use Rattle.history.specs.History.{Act, event_by, event_in}
 use Rattle.history.specs.MethodLaws.{ActEffectLaw, IsSent, CallLaw}
 use Rattle.history.specs.Looked.{IsLookedAtBy}
 use Rattle.sp_cells.specs.Resets.{programmatic}
 use Rattle.audit.specs.declared.rules.rule.Rule.TheVariants.{NoCommand, Mixed, NoFrame}
+use Rattle.basics.specs.Profiles.{has_opal}
 
 none-some : {A : Type 0} {x : A} → None ≡ Some x → ⊥
 none-some h = cc

@@ -12,10 +12,12 @@ use Rattle.device_data.specs.Discovery.{has_owner}
 use Rattle.history.specs.Answers.{is_holding}
 use Rattle.history.specs.Events.{Deed, Nothing, InSession, OfQueue, Wrote, Took, BlockedSid, Chose, WasReset, Event, did, ignores}
 use Rattle.history.specs.Facts.{Facts, session_named}
-use Rattle.history.specs.Decisions.{refuses, is_trusted, is_session_com_id}
-use Rattle.history.specs.Tcg.{answers, to_manager, in_session, item_in, breaks_off, broken_off, is_discarded, manager_event, is_manager, to_session, framed, sent, tcg, blocks_sid, send_item, unsent, is_sent}
+use Rattle.history.specs.Decisions.{refuses, is_trusted, is_session_com_id, asks_stack}
+use Rattle.history.specs.Tcg.{answers, to_manager, in_session, item_in, breaks_off, broken_off, is_discarded, manager_event, is_manager, to_session, framed, sent, tcg, blocks_sid, send_item, unsent, is_sent, unframed, unframed_in, broken_of, sent_by, stack_reset, stack_kept, stack_sent, send_other}
 use Rattle.history.specs.Quiet.{is_quiet, IsQuiet}
-use Rattle.audit.specs.declared.rules.rule.Rule.TheVariants.{SidKept, NoFrame, Discarded}
+use Rattle.audit.specs.declared.rules.rule.Rule.TheVariants.{SidKept, NoFrame, Discarded, BrokenOff}
+use Rattle.compacket.specs.declared.session.Named.{Named}
+use Rattle.device_data.specs.StackReset.{is_stack_reset}
 
 either : (b : Bool) (x y : Event) → is_quiet x.deed ≡ true → is_quiet y.deed ≡ true → is_quiet (cond b x y).deed ≡ true
 either true x y h g = h

@@ -16,18 +16,20 @@ use Rattle.trusted_cmds.specs.declared.command.Command.TheVariants.{ReadQueued, 
 use Rattle.trusted_cmds.specs.declared.command.CommandError.{CommandError}
 use Rattle.locking.specs.declared.ranges.Verdict.{Verdict}
 use Rattle.locking.specs.declared.ranges.Verdict.TheVariants.{Serve, Shadow, Denied}
-use Rattle.sessions.specs.Deeds.{Begun}
+use Rattle.sessions.specs.Deeds.{Begun, StackTold}
 use Rattle.trusted_cmds.specs.BlockSid.{is_block_sid, block_asked, is_blocked}
 use Rattle.device_data.specs.Discovery.{has_owner}
-use Rattle.history.specs.Events.{did, HeldCommand, Deed, Nothing, InSession, Left, Silent, Wrote, Event, or_else, OfQueue, Took, BlockedSid, Chose, WasReset, latest, ignores}
+use Rattle.history.specs.Events.{did, HeldCommand, Deed, Nothing, InSession, Left, Silent, Wrote, Event, or_else, OfQueue, Took, BlockedSid, Chose, WasReset, latest, ignores, Dropped}
 use Rattle.history.specs.Facts.{Facts, facts, session_named}
-use Rattle.history.specs.Decisions.{aborted, not_found, fails, refuses, fails_queue, on_drive, verdict_on, queued_by, queued_transfer, admitted, unqueued_by, unqueued_transfer, is_trusted, is_session_com_id, discovery_com_id, received, while_failed, is_busy, completed_by, completed, resets, is_received, unreceived}
-use Rattle.history.specs.Tcg.{answers, to_manager, in_session, item_in, breaks_off, broken_off, is_discarded, manager_event, is_manager, to_session, framed, sent, unqueued, known, commanded, command_read, blocks_sid, unsent, is_sent, is_free_for}
+use Rattle.history.specs.Decisions.{aborted, not_found, fails, refuses, fails_queue, on_drive, verdict_on, queued_by, queued_transfer, admitted, unqueued_by, unqueued_transfer, is_trusted, is_session_com_id, discovery_com_id, received, while_failed, is_busy, completed_by, completed, resets, is_received, unreceived, asks_stack}
+use Rattle.history.specs.Tcg.{answers, to_manager, in_session, item_in, breaks_off, broken_off, is_discarded, manager_event, is_manager, to_session, framed, sent, unqueued, known, commanded, command_read, blocks_sid, unsent, is_sent, is_free_for, unframed, unframed_in, broken_of, sent_by, stack_reset, stack_kept, stack_sent}
 use Rattle.history.specs.History.{Act, Accept, Complete, Reset, SoftwareReset, event_by, event, log}
 use Rattle.history.specs.Readers.{waits, waiting}
 use Rattle.history.specs.Bounds.{ResponseLaw}
 use Rattle.sp_cells.specs.Resets.{programmatic}
-use Rattle.audit.specs.declared.rules.rule.Rule.TheVariants.{NoCommand, Unreadable, Mixed, BeyondDrive, SidKept, NoFrame, Discarded}
+use Rattle.audit.specs.declared.rules.rule.Rule.TheVariants.{NoCommand, Unreadable, Mixed, BeyondDrive, SidKept, NoFrame, Discarded, BrokenOff}
+use Rattle.compacket.specs.declared.session.Named.{Named}
+use Rattle.device_data.specs.StackReset.{is_stack_reset}
 
 abbrev on_session : Deed → Bool
 on_session (InSession deed (Left its bytes)) = is_session_com_id its

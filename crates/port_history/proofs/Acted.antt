@@ -16,13 +16,14 @@ use Rattle.trusted_cmds.specs.declared.command.Command.TheVariants.{ReadQueued, 
 use Rattle.trusted_cmds.specs.declared.command.CommandError.{CommandError}
 use Rattle.trusted_cmds.specs.Commands.{fis_of, tag_with, sector_size, is_queued as is_queued_code}
 use Rattle.history.specs.Opening.{Origin}
-use Rattle.history.specs.Events.{QueueMended, Deed, Nothing, InSession, OfQueue, Wrote, Took, BlockedSid, Chose, WasReset, Event, did, or_else, latest}
+use Rattle.history.specs.Events.{QueueMended, Deed, Nothing, InSession, Silent, OfQueue, Wrote, Took, BlockedSid, Chose, WasReset, Event, did, or_else, latest}
+use Rattle.sessions.specs.Deeds.{StackTold}
 use Rattle.history.specs.Readers.{holding, held, failing, failure}
 use Rattle.history.specs.Items.{Items}
 use Rattle.history.specs.Quiet.{is_quiet}
 use Rattle.history.proofs.QuietProofs.{tcg_quiet}
 use Rattle.history.specs.Facts.{Facts, facts}
-use Rattle.history.specs.Decisions.{not_found, aborted, fails, refuses, fails_queue, on_drive, verdict_on, holds, queued_by, admitted, unqueued_by, is_trusted, is_session_com_id, discovery_com_id, received, is_busy, resets, unqueued_of, known_of, commanded_of, while_failed, is_received, unreceived}
+use Rattle.history.specs.Decisions.{not_found, aborted, fails, refuses, fails_queue, on_drive, verdict_on, holds, queued_by, admitted, unqueued_by, is_trusted, is_session_com_id, discovery_com_id, received, is_busy, resets, unqueued_of, known_of, commanded_of, while_failed, is_received, unreceived, asks_stack, receive_other}
 use Rattle.history.specs.Tcg.{data_read, command_read, tcg}
 use Rattle.history.specs.Answers.{answer_fis, pio_fis, ready, errored, is_holding, answer_fises_of, fises_read, answer_data_of, data_read_of}
 use Rattle.history.specs.History.{Accept as AcceptFis, event_by, event_in}
@@ -321,10 +322,11 @@ unqueued-quiet items still f payload (Send protocol com_id blocks dma) =
     (of-items (items.sends f protocol com_id blocks payload).deed
     (still.quiet f protocol com_id blocks payload))
 unqueued-quiet items still f payload (Receive protocol com_id blocks dma) =
-    quiet-if
-    (is_received f protocol com_id blocks)
+    quiet-if (asks_stack f.config.profile protocol com_id blocks)
+    (did (InSession (StackTold com_id) Silent)) (receive_other f protocol com_id blocks) refl
+    (quiet-if (is_received f protocol com_id blocks)
     (received com_id blocks (f.waiting com_id)) (refuses (unreceived protocol blocks))
-    (received-quiet com_id blocks (f.waiting com_id)) refl
+    (received-quiet com_id blocks (f.waiting com_id)) refl)
 unqueued-quiet items still f payload Identify = refl
 unqueued-quiet items still f payload (ReadLog10 dma) = refl
 unqueued-quiet items still f payload Flush = refl

@@ -16,6 +16,8 @@ use Rattle.std.proofs.lemmas.Bool.Decides.{nat_tests}
 use Rattle.device_data.specs.ErrorLog.{sized, error_log, page_head}
 use Rattle.device_data.specs.Identity.{identity, identify_word, low_first, run_from, identity_in, identity_of, field_word, field_identity}
 use Rattle.device_data.specs.Discovery.{discovery_of}
+use Rattle.device_data.specs.StackReset.{stack_answer}
+use Rattle.sessions.specs.Beside.{channel_of}
 use Rattle.device_data.specs.declared.log_page.Failure.{Failure}
 use Rattle.shadow_mbr.specs.Stored.{zeros, sectors_from}
 use Rattle.transactions.specs.Bytes.{bytes_from}
@@ -29,9 +31,9 @@ use Rattle.sessions.specs.Deeds.{erased_by}
 use Rattle.shadow_mbr.specs.Erasure.{is_erased}
 use Rattle.history.specs.Readers.{part_of, writing, sector}
 use Rattle.history.specs.Facts.{Facts}
-use Rattle.history.specs.Decisions.{verdict_on, discovery_com_id, asks_certificates}
+use Rattle.history.specs.Decisions.{verdict_on, discovery_com_id, asks_certificates, asks_stack}
 use Rattle.history.specs.Answers.{read_by, held_data}
-use Rattle.history.specs.Tcg.{received_bytes, receive_data, certificates_or, data_of}
+use Rattle.history.specs.Tcg.{received_bytes, receive_data, certificates_or, stack_or, data_of}
 use Rattle.port_history.specs.Requests.{bytes_moved}
 
 -- sectors
@@ -124,17 +126,24 @@ length-received f com_id room =
     by_test (Rattle.std.specs.Prelude.nat_eq com_id discovery_com_id)
   where
     by_test : (b : Bool)
-        → length (if b then sized room (discovery_of f.config.profile f.rows f.block)
+        → length (if b then sized room (discovery_of f.config.profile f.rows f.beside.block)
         else sized room (received_bytes com_id room (f.waiting com_id)))
         ≡ room
-    by_test true = length-sized room (discovery_of f.config.profile f.rows f.block)
+    by_test true = length-sized room (discovery_of f.config.profile f.rows f.beside.block)
     by_test false = length-sized room (received_bytes com_id room (f.waiting com_id))
 
-length-told : (list certificates : Bool) (f : Facts) (com_id room : ℕ)
-    → length (if list then sized room protocol_list else certificates_or certificates f com_id room) ≡ room
-length-told true certificates f com_id room = length-sized room protocol_list
-length-told false true f com_id room = length-sized room certificate_data
-length-told false false f com_id room = length-received f com_id room
+length-certificates : (certificates : Bool) (f : Facts) (com_id room : ℕ)
+    → length (certificates_or certificates f com_id room) ≡ room
+length-certificates true f com_id room = length-sized room certificate_data
+length-certificates false f com_id room = length-received f com_id room
+
+length-told : (list stack : Bool) (f : Facts) (command : Command) (com_id room : ℕ)
+    → length (if list then sized room protocol_list else stack_or stack f command com_id room) ≡ room
+length-told true stack f command com_id room = length-sized room protocol_list
+length-told false true f command com_id room =
+    length-sized room (stack_answer com_id (channel_of f.beside com_id).was_reset)
+length-told false false f command com_id room =
+    length-certificates (asks_certificates f.config.profile command) f com_id room
 
 length-words : (word : ℕ → ℕ) (xs : List ℕ)
     → length (flat_map (λ x. low_first (word x)) xs) ≡ 2 * length xs
@@ -217,7 +226,8 @@ data-fits f (Receive protocol com_id blocks dma) whole =
     omega (
       arith,
       length-told (is_protocol_list (Receive protocol com_id blocks dma))
-          (asks_certificates f.config.profile (Receive protocol com_id blocks dma)) f com_id (512 * blocks),
+          (asks_stack f.config.profile protocol com_id blocks) f (Receive protocol com_id blocks dma) com_id
+          (512 * blocks),
     )
 data-fits f Identify whole = omega (arith, length-known f.config.profile f.config f.settings)
 data-fits f (ReadLog10 dma) whole = omega (arith, length-log f.failure)

@@ -4,13 +4,14 @@
 --   because startColumn of Get lies behind endColumn
 --   because Values of Set is no list
 --   because GetACL wants two names of eight bytes, an object and a method
+--   because Random wants one number, how many bytes
 use Rattle.std.specs.Prelude.{◌≡◌, ℕ, ◌==◌, ◌-◌, ◌^◌, ◌&&◌, Bool, true, false, not, nat_le, List, [], ◌∷◌, Option, None, Some, is_some, codes, if◌then◌else◌}
 use Rattle.basics.specs.declared.profile.Profile.{Profile}
 use Rattle.basics.specs.declared.profile.Profile.TheVariants.{Base, Field, Opal}
 use Rattle.compacket.specs.Frames.{reading as frame_in}
 use Rattle.sp_cells.specs.declared.names.Sp.{Sp}
 use Rattle.sp_cells.specs.declared.names.Uid.{Uid}
-use Rattle.sp_cells.specs.Names.{get, set, authenticate, activate, revert, gen_key, revert_sp, next, get_acl}
+use Rattle.sp_cells.specs.Names.{get, set, authenticate, activate, revert, gen_key, revert_sp, next, get_acl, random}
 use Rattle.tcg_tokens.specs.Tree.{Tree, number, bytes, list, named}
 use Rattle.tcg_calls.specs.Asks.{uid_in, is_byte_table, is_ordered, ask_of}
 use Rattle.tcg_calls.specs.Parameters.{start_row_parameter, end_row_parameter, start_column_parameter, end_column_parameter, where_parameter, values_parameter, next_where_parameter, next_count_parameter, proof_parameter, keep_global_range_key_parameter}
@@ -143,6 +144,11 @@ line_fault (object ∷ method ∷ []) =
     if is_some (uid_in object) && is_some (uid_in method) then None else Some faults.Line
 line_fault (object ∷ method ∷ t ∷ ts) = Some faults.Line
 
+-- Random: how many bytes
+abbrev pub random_fault : List Tree → Option ArgumentFault
+random_fault (number count ∷ []) = None
+random_fault _ = Some faults.RandomCount
+
 -- by the method, as the profile knows it
 abbrev pub field_fault : Uid → List Tree → Option ArgumentFault
 field_fault method args =
@@ -156,6 +162,7 @@ opal_fault method args =
     if method.0 == next.0
     then next_fault (options (next_where_parameter ∷ next_count_parameter ∷ []) args) else
     if method.0 == get_acl.0 then line_fault args else
+    if method.0 == random.0 then random_fault args else
     field_fault method args
 
 abbrev pub other_fault : Profile → Uid → List Tree → Option ArgumentFault
@@ -203,6 +210,7 @@ argument_words faults.NextNames = codes "Next takes Where and Count alone, each 
 argument_words faults.NextWhere = codes "Where of Next is no name of eight bytes"
 argument_words faults.NextCount = codes "Count of Next is no number"
 argument_words faults.Line = codes "GetACL wants two names of eight bytes, an object and a method"
+argument_words faults.RandomCount = codes "Random wants one number, how many bytes"
 
 abbrev pub argument_line : Option ArgumentFault → List ℕ
 argument_line None = []

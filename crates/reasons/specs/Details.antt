@@ -6,6 +6,9 @@
 --   because act 5: end of session 4096 on LockingSP by client 7 in session 4096, line 6
 --   because session 4096 on LockingSP lives with another number of its host, or on another ComID
 --   because Write of StartSession is not 1: each session of this drive reads and writes
+--   lifted by: Random of at most 32 bytes
+--   lifted by: the ComID, two bytes of zeros, and 00000002h
+--   lifted by: a StartSession
 use Rattle.std.specs.Prelude.{◌≡◌, ℕ, ◌==◌, Bool, true, false, ◌&&◌, List, [], ◌∷◌, ◌++◌, Option, None, Some, is_some, codes, decimal, if◌then◌else◌}
 use Rattle.compacket.specs.Frames.{reading as frame_in}
 use Rattle.sp_cells.specs.declared.names.Sp.{Sp}
@@ -143,6 +146,20 @@ abbrev pub shape_text : Option SentCall → List ℕ
 shape_text None = []
 shape_text (Some c) = if is_start_call c then start_line (start_fault c.args) else []
 
+-- what is taken in the place of what was not: fewer random bytes (Opal SSC 2.01, section 4.2.6), the reset of a stack (Core
+-- 2.01, section 3.3.4.7.5), and what begins a session again
+abbrev pub lifted_text : List ℕ → List ℕ
+lifted_text words = codes "lifted by: " ++ words ++ 10 ∷ []
+
+abbrev pub few_bytes_words : List ℕ
+few_bytes_words = codes "Random of at most 32 bytes"
+
+abbrev pub stack_reset_words : List ℕ
+stack_reset_words = codes "the ComID, two bytes of zeros, and 00000002h"
+
+abbrev pub anew_words : List ℕ
+anew_words = codes "a StartSession"
+
 -- behind the line of a rule; nothing where more is not known
 abbrev pub detail_text : Counted → Seen → (Sp → SpLife) → List ℕ → Rule → List ℕ
 detail_text counted seen lives payload rules.SpBusy =
@@ -158,6 +175,9 @@ detail_text counted seen lives payload rules.OutsideTable =
 detail_text counted seen lives payload rules.TooLong = asked_text seen lives payload rules.TooLong
 detail_text counted seen lives payload (rules.NotSet fault) =
     asked_text seen lives payload (rules.NotSet fault)
+detail_text counted seen lives payload rules.ManyRandomBytes = lifted_text few_bytes_words
+detail_text counted seen lives payload rules.NoStackReset = lifted_text stack_reset_words
+detail_text counted seen lives payload rules.NoSubpacket = lifted_text anew_words
 detail_text counted seen lives payload _ = []
 
 abbrev pub details_text : Counted → Seen → (Sp → SpLife) → List ℕ → Option Rule → List ℕ

@@ -3,6 +3,7 @@
 --   because a response waits on the ComID
 --   because Level 0 discovery, ComID 0001h, is received and takes no send
 --   because a response carries at most 65480 bytes of tokens
+--   because a response carries what its host takes by Properties, at first 1992 and at most 65480 bytes of tokens
 --   because security protocol 00h is its list alone: a receive, SP Specific 0000h, one block or more
 --   because security protocol 00h is a receive, SP Specific 0000h or 0001h, one block or more
 --   because TPerInfo ProgrammaticResetEnable = 0
@@ -23,13 +24,14 @@ use Rattle.audit.specs.declared.rules.rule.Rule.{Rule}
 use Rattle.audit.specs.declared.rules.rule.Rule.TheVariants as rules
 use Rattle.audit.specs.Words.{rule_words}
 use Rattle.tcg_calls.specs.Limits.{most_response}
+use Rattle.sessions.specs.Beside.{least_limits, room_in}
 use Rattle.history.specs.Facts.{Facts}
 use Rattle.history.specs.Decisions.{discovery_com_id, lets_reset}
 use Rattle.history.specs.Tcg.{unqueued}
 use Rattle.reasons.specs.Called.{called_object, called_column}
 use Rattle.reasons.specs.Remedies.{set_text}
 use Rattle.reasons.specs.declared.rulings.Matter.{Matter}
-use Rattle.reasons.specs.declared.rulings.Matter.TheVariants.{Reset, OtherThanList, OtherThanCertificates, SendToDiscovery, LongResponse, Plain}
+use Rattle.reasons.specs.declared.rulings.Matter.TheVariants.{Reset, OtherThanList, OtherThanCertificates, SendToDiscovery, LongResponse, LongForHost, Plain}
 
 -- by security protocol 00h
 abbrev pub is_by_protocol_0 : Command → Bool
@@ -47,7 +49,13 @@ abbrev pub is_send_to_discovery : Command → Bool
 is_send_to_discovery (Send protocol sp_specific blocks dma) = sp_specific == discovery_com_id
 is_send_to_discovery _ = false
 
--- what a command asks for that its rule does not tell: status 11h goes by the bytes of a response
+-- status 11h goes by the bytes of a response, and under Opal by what its host takes
+abbrev pub matter_of_length : Profile → Matter
+matter_of_length Base = LongResponse
+matter_of_length Field = LongResponse
+matter_of_length Opal = LongForHost
+
+-- what a command asks for that its rule does not tell
 abbrev pub matter_of_protocol : Profile → Command → Matter
 matter_of_protocol profile command =
     if is_programmatic_reset command then Reset
@@ -59,7 +67,7 @@ matter_of_com_id command = if is_send_to_discovery command then SendToDiscovery 
 abbrev pub matter_of : Profile → Command → Rule → Matter
 matter_of profile command rules.Protocol = matter_of_protocol profile command
 matter_of profile command rules.ComId = matter_of_com_id command
-matter_of profile command rules.TooLong = LongResponse
+matter_of profile command rules.TooLong = matter_of_length profile
 matter_of profile command _ = Plain
 
 abbrev pub matter_at : Profile → Option Command → Rule → Matter
@@ -96,12 +104,19 @@ abbrev pub long_words : List ℕ
 long_words =
     codes "a response carries at most " ++ decimal most_response ++ codes " bytes of tokens"
 
+abbrev pub host_words : List ℕ
+host_words =
+    codes "a response carries what its host takes by Properties, at first "
+    ++ decimal (room_in least_limits) ++ codes " and at most " ++ decimal most_response
+    ++ codes " bytes of tokens"
+
 abbrev pub matter_text : Profile → LookUp → Rule → Matter → List ℕ
 matter_text profile look rule Reset = no_reset_text profile look
 matter_text profile look rule OtherThanList = because_text list_words
 matter_text profile look rule OtherThanCertificates = because_text certificate_words
 matter_text profile look rule SendToDiscovery = because_text discovery_words
 matter_text profile look rule LongResponse = because_text long_words
+matter_text profile look rule LongForHost = because_text host_words
 matter_text profile look rule Plain = because_text (rule_words rule)
 
 -- the rule alone; no line where there is none

@@ -7,7 +7,7 @@ ghost use Rattle.tcg_calls.specs.Named.{options, number_or as number_or_in, numb
 ghost use Rattle.tcg_calls.specs.Parameters.{start_row_parameter, end_row_parameter, start_column_parameter, end_column_parameter, where_parameter, values_parameter, next_where_parameter, next_count_parameter, proof_parameter, keep_global_range_key_parameter};
 ghost use Rattle.reasons.specs.Lives.{life_on};
 ghost use Rattle.reasons.specs.Sent.{call_seen};
-ghost use Rattle.reasons.specs.Arguments.{row_order_fault, rows_fault, column_order_fault, columns_fault, block_fault, get_fault, list_fault, values_fault, cells_fault, content_fault, bytes_fault, put_fault, proof_fault, attempt_fault, none_fault, keep_fault, revert_sp_fault, is_row, next_fault, line_fault, field_fault, opal_fault, other_fault, argument_fault, argument_words, argument_line, shape_line, arguments_text};
+ghost use Rattle.reasons.specs.Arguments.{row_order_fault, rows_fault, column_order_fault, columns_fault, block_fault, get_fault, list_fault, values_fault, cells_fault, content_fault, bytes_fault, put_fault, proof_fault, attempt_fault, none_fault, keep_fault, revert_sp_fault, is_row, next_fault, line_fault, random_fault, field_fault, opal_fault, other_fault, argument_fault, argument_words, argument_line, shape_line, arguments_text};
 
 use crate::explained::SessionChronicle;
 use crate::rulings::append_because;
@@ -74,6 +74,8 @@ pub enum ArgumentFault {
     NextCount,
     /// GetACL has something else than two names.
     Line,
+    /// Random has something else than one number.
+    RandomCount,
 }
 
 /// An optional number, with what stands for it where it is absent; None where something else stands there.
@@ -354,6 +356,16 @@ fn line_fault(args: &[Value]) -> Option<ArgumentFault>
     }
 }
 
+/// What is wrong with the arguments of Random.
+fn random_fault(args: &[Value]) -> Option<ArgumentFault>
+    ensures { result ≡ random_fault (map tree args.now) }
+{
+    match args {
+        [Value::Number(_)] => None,
+        _ => Some(ArgumentFault::RandomCount),
+    }
+}
+
 /// What is wrong with the arguments of a method that the field profile has besides.
 fn field_fault(
     alloc: Global,
@@ -380,6 +392,7 @@ fn opal_fault(
     match method {
         Uid::NEXT => next_fault(alloc, args),
         Uid::GET_ACL => Ok(line_fault(args)),
+        Uid::RANDOM => Ok(random_fault(args)),
         _ => field_fault(alloc, method, args),
     }
 }
@@ -474,6 +487,7 @@ fn argument_words(fault: ArgumentFault) -> &'static [u8]
         ArgumentFault::NextWhere => b"Where of Next is no name of eight bytes",
         ArgumentFault::NextCount => b"Count of Next is no number",
         ArgumentFault::Line => b"GetACL wants two names of eight bytes, an object and a method",
+        ArgumentFault::RandomCount => b"Random wants one number, how many bytes",
     }
 }
 

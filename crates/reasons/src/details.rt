@@ -7,7 +7,7 @@ ghost use Rattle.reasons.specs.Asked.{seen_with, MetLaw, LongLaw};
 ghost use Rattle.reasons.specs.Sent.{call_seen, sp_wanted};
 ghost use Rattle.reasons.specs.Arguments.{ArgumentLaw};
 ghost use Rattle.reasons.specs.Untaken.{UntakenColumnLaw, UntakenLaw};
-ghost use Rattle.reasons.specs.Details.{session_words, act_line, started_words, freed_line, busy_since, busy_if, busy_text, ended_words, ended_since, elsewhere_line, ended_if, lost_on, lost_text, writes_fault, sp_fault, is_host_number, start_fault, start_words, start_line, is_start_call, shape_text, detail_text, details_text, StartFaultLaw};
+ghost use Rattle.reasons.specs.Details.{session_words, act_line, started_words, freed_line, busy_since, busy_if, busy_text, ended_words, ended_since, elsewhere_line, ended_if, lost_on, lost_text, writes_fault, sp_fault, is_host_number, start_fault, start_words, start_line, is_start_call, shape_text, lifted_text, detail_text, details_text, StartFaultLaw};
 
 use crate::arguments::append_arguments;
 use crate::asked::{append_asked, is_last};
@@ -371,6 +371,16 @@ fn sp_wanted(call: Option<&Call>) -> Option<Sp>
     sp_of_args(&call?.args)
 }
 
+/// Appends what would be taken, as a line with its line feed.
+fn append_lifted(text: &mut Vec<u8>, words: &[u8]) -> Result<(), AllocError>
+    ensures { OnOk result (text.new.items ≡ text.old.items ++ lifted_text words.now) }
+{
+    text.extend_from_slice(b"lifted by: ")?;
+    text.extend_from_slice(words)?;
+    text.extend_from_slice(b"\n")?;
+    Ok(())
+}
+
 /// Appends what is told behind the line of a rule.
 fn append_detail<R: Rows>(
     alloc: Global,
@@ -407,14 +417,17 @@ fn append_detail<R: Rows>(
         Rule::OutsideTable | Rule::TooLong | Rule::NotSet(_) => {
             append_asked(alloc, text, rows, is_open, sessions, payload, rule)
         }
+        Rule::ManyRandomBytes => append_lifted(text, b"Random of at most 32 bytes"),
+        Rule::NoStackReset => append_lifted(text, b"the ComID, two bytes of zeros, and 00000002h"),
+        Rule::NoSubpacket => append_lifted(text, b"a StartSession"),
         _ => Ok(()),
     }
 }
 
 /// The lines that tell more of what was sent and a rule refused, each with its line feed: who holds the SP that is busy, what
-/// ended the session, which argument, range or row is at fault. Nothing where more is not known. `is_open` says whether a
-/// transaction is open on an SP: what a Set would have made of a range is told by the rows in force, which each session sees
-/// while none is.
+/// ended the session, which argument, range or row is at fault, what would be taken. Nothing where more is not known.
+/// `is_open` says whether a transaction is open on an SP: what a Set would have made of a range is told by the rows in force,
+/// which each session sees while none is.
 ///
 /// # Errors
 ///

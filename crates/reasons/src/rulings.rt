@@ -1,7 +1,7 @@
 //! Why a rule refused a command, in words: by what a trusted command asked for, or else by the rule.
 
 ghost use Rattle.std.specs.Prelude.{◌≡◌, ◌++◌, IfOk, OnOk};
-ghost use Rattle.reasons.specs.Rulings.{is_by_protocol_0, other_than_told, is_send_to_discovery, matter_of_protocol, matter_of_com_id, matter_of, matter_at, because_text, no_reset_words, no_reset_text, long_words, matter_text, rule_text, ruled_text, command_carried, ResetRuleLaw};
+ghost use Rattle.reasons.specs.Rulings.{is_by_protocol_0, other_than_told, is_send_to_discovery, matter_of_protocol, matter_of_com_id, matter_of_length, matter_of, matter_at, because_text, no_reset_words, no_reset_text, long_words, host_words, matter_text, rule_text, ruled_text, command_carried, ResetRuleLaw};
 
 use crate::remedies::{append_column_name, append_object_name, append_set};
 use audit::rules::{Rule, rule_words};
@@ -16,6 +16,9 @@ use trusted_cmds::{Command, is_programmatic_reset, of_fis};
 /// The ComID of Level 0 discovery.
 pub const DISCOVERY_COM_ID: ComId = 1;
 
+/// How many bytes of tokens a response carries to a host that has told nothing of itself (Opal SSC 2.01, section 4.1.1.1).
+const LEAST_ROOM: u64 = 1992;
+
 /// What a trusted command asks for that its rule does not tell.
 #[derive(Clone, Copy, Debug, PartialEq, Eq)]
 pub enum Matter {
@@ -29,6 +32,8 @@ pub enum Matter {
     SendToDiscovery,
     /// More than a response carries.
     LongResponse,
+    /// More than a response carries to a host that takes no more.
+    LongForHost,
     /// Nothing that the rule does not tell.
     Plain,
 }
@@ -88,6 +93,16 @@ fn matter_of_com_id(command: &Command) -> Matter
     }
 }
 
+/// What a command asks for that is longer than a response.
+fn matter_of_length(profile: Profile) -> Matter
+    ensures { result ≡ matter_of_length profile }
+{
+    match profile {
+        Profile::Base | Profile::Field => Matter::LongResponse,
+        Profile::Opal => Matter::LongForHost,
+    }
+}
+
 /// What a command asks for that a rule refused.
 fn matter_of(profile: Profile, command: &Command, rule: Rule) -> Matter
     ensures { result ≡ matter_of profile command.now rule }
@@ -95,7 +110,7 @@ fn matter_of(profile: Profile, command: &Command, rule: Rule) -> Matter
     match rule {
         Rule::Protocol => matter_of_protocol(profile, command),
         Rule::ComId => matter_of_com_id(command),
-        Rule::TooLong => Matter::LongResponse,
+        Rule::TooLong => matter_of_length(profile),
         _ => Matter::Plain,
     }
 }
@@ -177,6 +192,27 @@ fn append_long(alloc: Global, text: &mut Vec<u8>) -> Result<(), AllocError>
     append_because(text, &words)
 }
 
+/// How much a response carries to its host.
+fn host_words(alloc: Global) -> Result<Vec<u8>, AllocError>
+    ensures { IfOk result (λ words. words.items ≡ host_words) }
+{
+    let mut words = Vec::new(alloc);
+    words.extend_from_slice(b"a response carries what its host takes by Properties, at first ")?;
+    append_decimal(alloc, &mut words, LEAST_ROOM)?;
+    words.extend_from_slice(b" and at most ")?;
+    append_decimal(alloc, &mut words, MOST_RESPONSE)?;
+    words.extend_from_slice(b" bytes of tokens")?;
+    Ok(words)
+}
+
+/// Appends how much a response carries to its host.
+fn append_for_host(alloc: Global, text: &mut Vec<u8>) -> Result<(), AllocError>
+    ensures { OnOk result (text.new.items ≡ text.old.items ++ because_text host_words) }
+{
+    let words = host_words(alloc)?;
+    append_because(text, &words)
+}
+
 /// Appends why a rule refused what a command asked for.
 fn append_matter<R: Rows>(
     alloc: Global,
@@ -203,6 +239,7 @@ fn append_matter<R: Rows>(
             b"Level 0 discovery, ComID 0001h, is received and takes no send",
         ),
         Matter::LongResponse => append_long(alloc, text),
+        Matter::LongForHost => append_for_host(alloc, text),
         Matter::Plain => append_because(text, rule_words(rule)),
     }
 }

@@ -12,6 +12,7 @@ use Rattle.tcg_calls.specs.Parameters.{host_challenge_parameter, host_signing_au
 use Rattle.tcg_calls.specs.Named.{options}
 use Rattle.tcg_calls.specs.Asks.{uid_in}
 use Rattle.tcg_calls.specs.CellValues.{number_in}
+use Rattle.sessions.specs.Beside.{least_limits}
 use Rattle.sessions.specs.Properties.{properties_message}
 use Rattle.sessions.specs.Starts.{opening_from, opening_of}
 
@@ -89,19 +90,19 @@ told = max_methods ++ max_subpackets ++ max_packet_size ++ max_packets ++ max_co
 told_by_opal : List ℕ
 told_by_opal = max_response_com_packet_size ++ max_sessions ++ max_authentications ++ max_transaction_limit ++ def_session_timeout
 
-row_opal : item_spelling_of (properties_message Opal []) ≡ front ++ told ++ told_by_opal ++ behind
+row_opal : item_spelling_of (properties_message Opal least_limits []) ≡ front ++ told ++ told_by_opal ++ behind
 unfolding number_spelling bytes_spelling front max_methods max_subpackets max_packet_size max_packets max_com_packet_size max_ind_token_size max_response_com_packet_size max_sessions max_authentications max_transaction_limit def_session_timeout behind told told_by_opal
 row_opal = refl
 
-row_field : item_spelling_of (properties_message Field []) ≡ front ++ told ++ behind
+row_field : item_spelling_of (properties_message Field least_limits []) ≡ front ++ told ++ behind
 unfolding number_spelling bytes_spelling front max_methods max_subpackets max_packet_size max_packets max_com_packet_size max_ind_token_size behind told
 row_field = refl
 
-row_base : properties_message Base [] ≡ properties_message Field []
+row_base : properties_message Base least_limits [] ≡ properties_message Field least_limits []
 row_base = refl
 
 -- an argument of another name is refused
-row_named_1 : item_spelling_of (properties_message Opal (named (number 1) (number 0) ∷ [])) ≡ front_alone ++ 0xf1 ∷ 0xf9 ∷ 0xf0 ∷ 0x0c ∷ 0 ∷ 0 ∷ 0xf1 ∷ []
+row_named_1 : item_spelling_of (properties_message Opal least_limits (named (number 1) (number 0) ∷ [])) ≡ front_alone ++ 0xf1 ∷ 0xf9 ∷ 0xf0 ∷ 0x0c ∷ 0 ∷ 0 ∷ 0xf1 ∷ []
 unfolding number_spelling bytes_spelling front_alone
 row_named_1 = refl
 

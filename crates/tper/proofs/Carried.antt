@@ -1,15 +1,15 @@
 -- Each answer can be carried by a response: that to a call, that to a StartSession, and that to Properties.
 use Rattle.std.proofs.Common.{◌≡◌, ℕ, ◌+◌, ◌^◌, ◌<◌, ◌≤◌, Bool, true, false, not, ltb, List, [], ◌∷◌, ◌++◌, length, Option, None, Some, refl, cond, arith, inl, inr, ◌&&◌}
-use Rattle.std.specs.Prelude.{◌==◌, ◌-◌, ◌||◌, suc, nat_le, nat_lt, Result, Ok, Err}
+use Rattle.std.specs.Prelude.{◌==◌, ◌-◌, ◌||◌, ◌&&◌, suc, min, max, codes, nat_le, nat_lt, Result, Ok, Err}
 use Rattle.std.specs.Int.{w64, to_be_bytes}
-use Rattle.std.proofs.Math.Nat.{min-le_left}
-use Rattle.std.proofs.lemmas.Bool.{ltb-true, le-leb, lt-ltb}
+use Rattle.std.proofs.Math.Nat.{min-le_left, min-le_right, max-le}
+use Rattle.std.proofs.lemmas.Bool.{ltb-true, leb-le, le-leb, lt-ltb}
 use Rattle.std.proofs.lemmas.Bool.Decides.{nat_tests}
 use Rattle.std.proofs.lemmas.List.{length-append}
-use Rattle.tcg_tokens.specs.Tree.{Tree, number, list, trees_of}
+use Rattle.tcg_tokens.specs.Tree.{Tree, number, bytes, list, trees_of}
 use Rattle.tcg_tokens.specs.Message.{begin, end}
 use Rattle.tcg_tokens.specs.Length.{len_of}
-use Rattle.tcg_tokens.specs.Spelling.{header, significant, number_spelling, bytes_spelling, status_spelling, item_spelling_of}
+use Rattle.tcg_tokens.specs.Spelling.{header, significant, number_spelling, bytes_spelling, spelling_of, spellings_of, status_spelling, item_spelling_of}
 use Rattle.tcg_tokens.specs.Writable.{fits_number}
 use Rattle.tcg_tokens.proofs.Writings.{length_significant}
 use Rattle.tcg_tokens.proofs.Tokens.{bool_cases}
@@ -19,7 +19,7 @@ use Rattle.sp_cells.specs.Flat.{LookUp}
 use Rattle.ace_eval.specs.Aces.{acl_at}
 use Rattle.sp_tables.specs.RowNames.{rows_of_table}
 use Rattle.methods.specs.Tables.{rows_asked, uids_tree}
-use Rattle.sp_cells.specs.Names.{session_manager, sync_session, table_of}
+use Rattle.sp_cells.specs.Names.{session_manager, sync_session, properties, table_of}
 use Rattle.audit.specs.declared.reason.AttemptFailure.{AttemptFailure}
 use Rattle.audit.specs.declared.reason.AttemptFailure.TheVariants.{WrongPin, LockedOut, Disabled, Blocked, Unknown}
 use Rattle.audit.specs.declared.reason.Why.{Why}
@@ -29,7 +29,7 @@ use Rattle.tcg_calls.specs.CellValues.{number_in}
 use Rattle.tcg_calls.specs.Limits.{most_response}
 use Rattle.tcg_calls.specs.Statuses.{success, not_authorized, sp_busy, no_sessions_available, invalid_parameter, transaction_failure, response_overflow, authority_locked_out, fail}
 use Rattle.tcg_calls.specs.declared.call_shapes.ask.Ask.{Ask}
-use Rattle.tcg_calls.specs.declared.call_shapes.ask.Ask.TheVariants.{GetCells, GetBytes, SetCells, SetBytes, Authenticate, Activate, Revert, GenKey, RevertSp, Next, GetAcl, Other}
+use Rattle.tcg_calls.specs.declared.call_shapes.ask.Ask.TheVariants.{GetCells, GetBytes, SetCells, SetBytes, Authenticate, Activate, Revert, GenKey, RevertSp, Next, GetAcl, Random, Other}
 use Rattle.sessions.specs.declared.opening.Opening.{Opening}
 use Rattle.sessions.specs.declared.opening.StartVerdict.TheVariants.{Refused, Attempted}
 use Rattle.sessions.specs.Answers.{rows_in_force}
@@ -37,7 +37,10 @@ use Rattle.sessions.specs.Attempts.{attempt_failure}
 use Rattle.sessions.specs.Live.{Live, lives_on}
 use Rattle.basics.specs.declared.profile.Profile.{Profile}
 use Rattle.basics.specs.declared.profile.Profile.TheVariants.{Base, Field, Opal}
-use Rattle.sessions.specs.Properties.{takes_properties, properties_list, properties_call, properties_message}
+use Rattle.sessions.specs.Properties.{property, sized_properties, properties_list, is_property, takes_properties, told_values, first_value, limit_told, limits_told, told_by, host_told, properties_call, properties_answer, properties_message}
+use Rattle.sessions.specs.declared.beside.HostLimits.{HostLimits}
+use Rattle.sessions.specs.Beside.{IsSmall}
+use Rattle.std.specs.List.{list_all}
 use Rattle.sessions.specs.Starts.{sp_named, is_in_use, is_full, is_host, opening_verdict_on, verdict, opening_of, host_among, host_of, sync_message, reply_to, start_reply}
 use Rattle.methods.specs.Said.{reply_of, attempt_reply}
 use Rattle.sessions.specs.Deeds.{Setting}
@@ -46,9 +49,9 @@ use Rattle.methods.specs.Kinds.{kind_of, byte_table_of}
 use Rattle.methods.specs.Effects.{ask_at, last_row, sp_of_row}
 use Rattle.sp_cells.specs.Numbers.{key_number}
 use Rattle.methods.specs.Erasures.{is_wholly_locked}
-use Rattle.methods.specs.Judgement.{Standing, Judgement, Refuses, Gives, Activates, Reverts, RevertsSp, erases, reverts_sp, denial, gives, listing, bytes_between, bytes_given, to_set, makes, unless_open, does_ask, does, unless_denied, judged, rows_told, acl_told}
+use Rattle.methods.specs.Judgement.{Standing, Judgement, Refuses, Gives, Draws, fits, draws, Activates, Reverts, RevertsSp, erases, reverts_sp, denial, gives, listing, bytes_between, bytes_given, to_set, makes, unless_open, does_ask, does, unless_denied, judged, rows_told, acl_told}
 use Rattle.methods.specs.Calls.{outcome_of}
-use Rattle.audit.specs.declared.rules.rule.Rule.TheVariants.{NotInUse, SpBusy, NoNumber, OutsideTable, TooLong, GlobalLocked}
+use Rattle.audit.specs.declared.rules.rule.Rule.TheVariants.{NotInUse, SpBusy, NoNumber, OutsideTable, TooLong, GlobalLocked, ManyRandomBytes}
 use Rattle.audit.specs.declared.rules.rule.Rule.{Rule}
 
 -- ---- the answers without results, and those of one number
@@ -91,22 +94,38 @@ one_success = refl
 abbrev Told : LookUp → Sp → Judgement → Type 0
 Told rows sp j = is_carried (outcome_of rows sp j).said ≡ true
 
-fitting : (rows : LookUp) (sp : Sp) (results : List Tree) (b : Bool) → is_carried (reply_of results success) ≡ b → Told rows sp (cond b (Gives results) (Refuses response_overflow TooLong))
-fitting rows sp results true h = h
-fitting rows sp results false h = bare_overflow
+fitting : (rows : LookUp) (sp : Sp) (results : List Tree) (b short : Bool) → is_carried (reply_of results success) ≡ b → Told rows sp (cond (b && short) (Gives results) (Refuses response_overflow TooLong))
+fitting rows sp results true true h = h
+fitting rows sp results true false h = bare_overflow
+fitting rows sp results false short h = bare_overflow
 
-given : (rows : LookUp) (sp : Sp) (results : List Tree) → Told rows sp (gives results)
-given rows sp results = fitting rows sp results (is_carried (reply_of results success)) refl
+given : (rows : LookUp) (sp : Sp) (room : ℕ) (results : List Tree) → Told rows sp (gives room results)
+given rows sp room results = fitting rows sp results (is_carried (reply_of results success)) (nat_le (len_of (reply_of results success)) room) refl
 
-rows_carried : (rows : LookUp) (sp : Sp) (past_end too_long : Bool) (results : List Tree) → Told rows sp (cond past_end (Refuses invalid_parameter OutsideTable) (cond too_long (Refuses response_overflow TooLong) (gives results)))
-rows_carried rows sp true too_long results = bare_invalid
-rows_carried rows sp false true results = bare_overflow
-rows_carried rows sp false false results = given rows sp results
+drawing : (rows : LookUp) (sp : Sp) (count : ℕ) (results : List Tree) (b short : Bool) → is_carried (reply_of results success) ≡ b → Told rows sp (cond (b && short) (Draws count results) (Refuses response_overflow TooLong))
+drawing rows sp count results true true h = h
+drawing rows sp count results true false h = bare_overflow
+drawing rows sp count results false short h = bare_overflow
 
-bytes_carried : (rows : LookUp) (sp : Sp) (byte : ℕ → ℕ) (size first : ℕ) (to : Option ℕ) → Told rows sp (bytes_given byte size first to)
-bytes_carried rows sp byte size first to =
+drawn_carried : (rows : LookUp) (sp : Sp) (room : ℕ) (random : ℕ → List ℕ) (count : ℕ) → Told rows sp (draws room random count)
+drawn_carried rows sp room random count = by_count (nat_lt 32 count)
+  where
+    results : List Tree
+    results = bytes (random count) ∷ []
+
+    by_count : (b : Bool) → Told rows sp (cond b (Refuses invalid_parameter ManyRandomBytes) (cond (fits room results) (Draws count results) (Refuses response_overflow TooLong)))
+    by_count true = bare_invalid
+    by_count false = drawing rows sp count results (is_carried (reply_of results success)) (nat_le (len_of (reply_of results success)) room) refl
+
+rows_carried : (rows : LookUp) (sp : Sp) (room : ℕ) (past_end too_long : Bool) (results : List Tree) → Told rows sp (cond past_end (Refuses invalid_parameter OutsideTable) (cond too_long (Refuses response_overflow TooLong) (gives room results)))
+rows_carried rows sp room true too_long results = bare_invalid
+rows_carried rows sp room false true results = bare_overflow
+rows_carried rows sp room false false results = given rows sp room results
+
+bytes_carried : (rows : LookUp) (sp : Sp) (room : ℕ) (byte : ℕ → ℕ) (size first : ℕ) (to : Option ℕ) → Told rows sp (bytes_given room byte size first to)
+bytes_carried rows sp room byte size first to =
     let last : ℕ = last_row size to in
-    rows_carried rows sp ((size == 0) || (nat_le size last || nat_lt last first)) (nat_lt most_response (last + 1 - first)) (bytes_between byte first last)
+    rows_carried rows sp room ((size == 0) || (nat_le size last || nat_lt last first)) (nat_lt room (last + 1 - first)) (bytes_between byte first last)
 
 set_carried : (rows : LookUp) (sp : Sp) (o : Result Setting Rule) → Told rows sp (makes o)
 set_carried rows sp (Err rule) = bare_invalid
@@ -132,17 +151,17 @@ revert_carried : (rows : LookUp) (sp : Sp) (b keep : Bool) → Told rows sp (con
 revert_carried rows sp true keep = bare_fail
 revert_carried rows sp false keep = bare_success
 
-told_carried : (rows : LookUp) (sp : Sp) (o : Option (List Uid)) → Told rows sp (rows_told o)
-told_carried rows sp None = bare_invalid
-told_carried rows sp (Some names) = given rows sp (uids_tree names ∷ [])
+told_carried : (rows : LookUp) (sp : Sp) (room : ℕ) (o : Option (List Uid)) → Told rows sp (rows_told room o)
+told_carried rows sp room None = bare_invalid
+told_carried rows sp room (Some names) = given rows sp room (uids_tree names ∷ [])
 
-acl_carried : (rows : LookUp) (sp : Sp) (o : Option (List Uid)) → Told rows sp (acl_told o)
-acl_carried rows sp None = bare_invalid
-acl_carried rows sp (Some acl) = given rows sp (uids_tree acl ∷ [])
+acl_carried : (rows : LookUp) (sp : Sp) (room : ℕ) (o : Option (List Uid)) → Told rows sp (acl_told room o)
+acl_carried rows sp room None = bare_invalid
+acl_carried rows sp room (Some acl) = given rows sp room (uids_tree acl ∷ [])
 
 ask_carried : (rows : LookUp) (sp : Sp) (its : Standing) (object : Uid) (ask : Ask) → Told rows sp (does_ask its object ask)
-ask_carried rows sp its object (GetCells first last) = given rows sp (listing its object first last)
-ask_carried rows sp its object (GetBytes first last) = bytes_carried rows sp (λ row. its.byte (table_begin its.sizes (byte_table_of (kind_of its.sp object)) + row)) (bytes_of_table its.sizes (byte_table_of (kind_of its.sp object))) first last
+ask_carried rows sp its object (GetCells first last) = given rows sp its.room (listing its object first last)
+ask_carried rows sp its object (GetBytes first last) = bytes_carried rows sp its.room (λ row. its.byte (table_begin its.sizes (byte_table_of (kind_of its.sp object)) + row)) (bytes_of_table its.sizes (byte_table_of (kind_of its.sp object))) first last
 ask_carried rows sp its object (SetCells ps) = set_carried rows sp (to_set its object (SetCells ps))
 ask_carried rows sp its object (SetBytes at octets) = set_carried rows sp (to_set its object (SetBytes at octets))
 ask_carried rows sp its object (Authenticate authority proof) = attempt_carried (attempt_failure its.block rows sp authority proof)
@@ -150,8 +169,9 @@ ask_carried rows sp its object Activate = inside_carried rows sp its.is_open Act
 ask_carried rows sp its object Revert = inside_carried rows sp its.is_open (Reverts (sp_of_row object)) bare_success
 ask_carried rows sp its object GenKey = inside_carried rows sp its.is_open (erases (key_number object)) (erases_carried rows sp (key_number object))
 ask_carried rows sp its object (RevertSp keep) = inside_carried rows sp its.is_open (reverts_sp its.rows keep) (revert_carried rows sp (keep && is_wholly_locked its.rows) keep)
-ask_carried rows sp its object (Next after count) = told_carried rows sp (rows_asked after count (rows_of_table its.sp (table_of object)))
-ask_carried rows sp its object (GetAcl about what) = acl_carried rows sp (acl_at its.profile its.sp about what)
+ask_carried rows sp its object (Next after count) = told_carried rows sp its.room (rows_asked after count (rows_of_table its.sp (table_of object)))
+ask_carried rows sp its object (GetAcl about what) = acl_carried rows sp its.room (acl_at its.profile its.sp about what)
+ask_carried rows sp its object (Random count) = drawn_carried rows sp its.room its.random count
 ask_carried rows sp its object Other = bare_fail
 
 unless_carried : (rows : LookUp) (sp : Sp) (denied : Option Why) (j : Judgement) → Told rows sp j → Told rows sp (unless_denied denied j)
@@ -258,7 +278,7 @@ number_left l e = let f : nat_lt 0xffffffff l.next ≡ false = e in grind (arith
 named_answered : (look : LookUp) (l : Live) (host : ℕ) (o : Opening) (sp : Option Sp) → host < 2 ^ 32 → is_carried (reply_to host l.next (opening_verdict_on look l o sp)) ≡ true
 named_answered look l host o None h = sync_carried host 0 invalid_parameter h (omega arith) (omega arith)
 named_answered look l host o (Some sp) h =
-    tests_answered (not (is_in_use look sp)) (lives_on sp l) (is_full l) host l.next sp (attempt_failure l.block look sp o.authority o.proof) h (number_left l)
+    tests_answered (not (is_in_use look sp)) (lives_on sp l) (is_full l) host l.next sp (attempt_failure l.beside.block look sp o.authority o.proof) h (number_left l)
 
 opening_answered : (look : LookUp) (l : Live) (host : ℕ) (o : Option Opening) → host < 2 ^ 32 → is_carried (reply_to host l.next (verdict look l o)) ≡ true
 opening_answered look l host None h = sync_carried host 0 invalid_parameter h (omega arith) (omega arith)
@@ -269,15 +289,121 @@ start_carried s l args = opening_answered (rows_in_force s) l (host_of args) (op
 
 -- ---- Properties
 
-properties_either : (profile : Profile) (b : Bool) → is_carried (cond b (properties_call (list (trees_of (properties_list profile)) ∷ []) success) (properties_call [] invalid_parameter)) ≡ true
+bare_properties : (profile : Profile) (b : Bool) → is_carried (cond b (properties_call (list (trees_of (properties_list profile)) ∷ []) success) (properties_call [] invalid_parameter)) ≡ true
 unfolding number_spelling bytes_spelling
-properties_either Base true = refl
-properties_either Field true = refl
-properties_either Opal true = refl
-properties_either profile false = refl
+bare_properties Base true = refl
+bare_properties Field true = refl
+bare_properties Opal true = refl
+bare_properties profile false = refl
 
-pub properties_carried : (profile : Profile) (args : List Tree) → is_carried (properties_message profile args) ≡ true
-properties_carried profile args = properties_either profile (takes_properties args)
+-- with what the host takes: no property is long
+length_bytes : (b : List ℕ) → length (bytes_spelling b) ≤ length b + 4
+unfolding bytes_spelling
+length_bytes b =
+    let e : length (header true (length b) ++ b) ≡ length (header true (length b)) + length b = simp length-append in
+    omega (arith, e, length_header true (length b))
+
+named_shape : (a b : List ℕ) → length (242 ∷ (a ++ (b ++ 243 ∷ []))) ≡ length a + length b + 2
+named_shape a b =
+    let e : length (242 ∷ (a ++ (b ++ 243 ∷ []))) ≡ suc (length a + (length b + 1)) = simp length-append in
+    omega (arith, e)
+
+length_property : (name : List ℕ) (value : ℕ) → length (spelling_of (property name value)) ≤ length name + 18
+length_property name value =
+    omega (arith, named_shape (bytes_spelling name) (number_spelling value), length_bytes name, length_number value)
+
+six_shape : (a b c d e f : List ℕ) → length (a ++ (b ++ (c ++ (d ++ (e ++ (f ++ [])))))) ≡ length a + length b + length c + length d + length e + length f
+six_shape a b c d e f =
+    let x : length (a ++ (b ++ (c ++ (d ++ (e ++ (f ++ [])))))) ≡ length a + (length b + (length c + (length d + (length e + (length f + 0))))) = simp length-append in
+    omega (arith, x)
+
+length_sized : (limits : HostLimits) → length (spellings_of (trees_of (sized_properties limits))) ≤ 204
+length_sized limits =
+    let shape = six_shape (spelling_of (property (codes "MaxMethods") 1)) (spelling_of (property (codes "MaxSubpackets") 1)) (spelling_of (property (codes "MaxPacketSize") limits.packet)) (spelling_of (property (codes "MaxPackets") 1)) (spelling_of (property (codes "MaxComPacketSize") limits.com_packet)) (spelling_of (property (codes "MaxIndTokenSize") limits.token)) in
+    omega (arith, shape, length_property (codes "MaxMethods") 1, length_property (codes "MaxSubpackets") 1, length_property (codes "MaxPacketSize") limits.packet, length_property (codes "MaxPackets") 1, length_property (codes "MaxComPacketSize") limits.com_packet, length_property (codes "MaxIndTokenSize") limits.token)
+
+length_listed : (profile : Profile) → nat_le (length (spellings_of (trees_of (properties_list profile)))) 1000 ≡ true
+unfolding number_spelling bytes_spelling
+length_listed Base = refl
+length_listed Field = refl
+length_listed Opal = refl
+
+properties_bytes : length (bytes_spelling (to_be_bytes w64 properties.0)) ≡ 9
+unfolding bytes_spelling
+properties_bytes = refl
+
+zero_number : length (number_spelling 0) ≡ 1
+unfolding number_spelling
+zero_number = refl
+
+told_shape : (o m p n z s : List ℕ) → length (248 ∷ (o ++ (m ++ ((240 ∷ (((240 ∷ (p ++ 241 ∷ [])) ++ ((242 ∷ (n ++ ((240 ∷ (z ++ 241 ∷ [])) ++ 243 ∷ []))) ++ [])) ++ 241 ∷ [])) ++ (249 ∷ s))))) ≡ length o + length m + length p + length n + length z + length s + 10
+told_shape o m p n z s =
+    let e : length (248 ∷ (o ++ (m ++ ((240 ∷ (((240 ∷ (p ++ 241 ∷ [])) ++ ((242 ∷ (n ++ ((240 ∷ (z ++ 241 ∷ [])) ++ 243 ∷ []))) ++ [])) ++ 241 ∷ [])) ++ (249 ∷ s)))))
+    ≡ suc (length o + (length m + (suc ((suc (length p + 1) + (suc (length n + (suc (length z + 1) + 1)) + 0)) + 1) + suc (length s)))) = simp length-append in
+    omega (arith, e)
+
+length_told : (profile : Profile) (limits : HostLimits) → length (item_spelling_of (properties_call (properties_answer profile (Some limits)) success)) ≤ 1300
+length_told profile limits =
+    let shape = told_shape (bytes_spelling (to_be_bytes w64 session_manager.0)) (bytes_spelling (to_be_bytes w64 properties.0)) (spellings_of (trees_of (properties_list profile))) (number_spelling 0) (spellings_of (trees_of (sized_properties limits))) (status_spelling (success ∷ 0 ∷ 0 ∷ [])) in
+    let states = length_status (number_spelling success) (number_spelling 0) (number_spelling 0) in
+    let listed : length (spellings_of (trees_of (properties_list profile))) ≤ 1000 = leb-le _ _ (length_listed profile) in
+    omega (arith, shape, states, listed, length_sized limits, manager_bytes, properties_bytes, zero_number)
+
+limits_short : (profile : Profile) (limits : HostLimits) → nat_le (len_of (properties_call (properties_answer profile (Some limits)) success)) most_response ≡ true
+limits_short profile limits =
+    le-leb _ _ (omega (arith, length_told profile limits, min-le_left (length (item_spelling_of (properties_call (properties_answer profile (Some limits)) success))) (2 ^ 64 - 1)))
+
+limits_carried : (profile : Profile) (limits : HostLimits) → IsSmall limits → is_carried (properties_call (properties_answer profile (Some limits)) success) ≡ true
+limits_carried profile limits small = by_profile profile
+  where
+    fits_com_packet : fits_number limits.com_packet ≡ true
+    fits_com_packet = lt-ltb _ _ small.com_packet_small
+
+    fits_packet : fits_number limits.packet ≡ true
+    fits_packet = lt-ltb _ _ small.packet_small
+
+    fits_token : fits_number limits.token ≡ true
+    fits_token = lt-ltb _ _ small.token_small
+
+    by_profile : (p : Profile) → is_carried (properties_call (properties_answer p (Some limits)) success) ≡ true
+    by_profile Base = rw (fits_com_packet, fits_packet, fits_token) (limits_short Base limits)
+    by_profile Field = rw (fits_com_packet, fits_packet, fits_token) (limits_short Field limits)
+    by_profile Opal = rw (fits_com_packet, fits_packet, fits_token) (limits_short Opal limits)
+
+limit_small : (before least most : ℕ) (x : Option ℕ) → before < 2 ^ 64 → least < 2 ^ 64 → most < 2 ^ 64 → limit_told before least most x < 2 ^ 64
+limit_small before least most None h g k = h
+limit_small before least most (Some value) h g k =
+    let below : min value most ≤ 2 ^ 64 - 1 = omega (arith, min-le_right value most) in
+    let least_below : least ≤ 2 ^ 64 - 1 = omega arith in
+    let both : max least (min value most) ≤ 2 ^ 64 - 1 = max-le least_below below in
+    omega (arith, both)
+
+told_small : (before : HostLimits) (values : List Tree) (b : Bool) (limits : HostLimits) → IsSmall before → cond b (Some (limits_told before values)) None ≡ Some limits → IsSmall limits
+told_small before values false limits small h = cc
+told_small before values true limits small h = subst IsSmall (same h) (record {
+  com_packet_small = limit_small before.com_packet 2048 65536 (first_value (codes "MaxComPacketSize") values) small.com_packet_small (omega arith) (omega arith);
+  packet_small = limit_small before.packet 2028 65516 (first_value (codes "MaxPacketSize") values) small.packet_small (omega arith) (omega arith);
+  token_small = limit_small before.token 1992 65480 (first_value (codes "MaxIndTokenSize") values) small.token_small (omega arith) (omega arith);
+})
+  where
+    same : {x y : HostLimits} → Some x ≡ Some y → x ≡ y
+    same g = cc
+
+host_small : (profile : Profile) (before limits : HostLimits) (x : Option (List Tree)) → IsSmall before → told_by profile before x ≡ Some limits → IsSmall limits
+host_small Base before limits None small h = cc
+host_small Base before limits (Some values) small h = cc
+host_small Field before limits None small h = cc
+host_small Field before limits (Some values) small h = cc
+host_small Opal before limits None small h = cc
+host_small Opal before limits (Some values) small h = told_small before values (list_all is_property values) limits small h
+
+answer_carried : (profile : Profile) (before : HostLimits) (args : List Tree) → IsSmall before → (b : Bool) (x : Option HostLimits) → host_told profile before args ≡ x → is_carried (cond b (properties_call (properties_answer profile x) success) (properties_call [] invalid_parameter)) ≡ true
+answer_carried profile before args small b None is = bare_properties profile b
+answer_carried profile before args small false (Some limits) is = bare_properties profile false
+answer_carried profile before args small true (Some limits) is = limits_carried profile limits (host_small profile before limits (told_values args) small is)
+
+pub properties_carried : (profile : Profile) (before : HostLimits) (args : List Tree) → IsSmall before → is_carried (properties_message profile before args) ≡ true
+properties_carried profile before args small = answer_carried profile before args small (takes_properties profile args) (host_told profile before args) refl
 
 -- ---- the other items
 

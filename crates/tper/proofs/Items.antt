@@ -33,20 +33,24 @@ use Rattle.tcg_calls.specs.declared.call_shapes.ask.Ask.TheVariants.{GetCells}
 use Rattle.methods.specs.Calls.{standing_in, judged_with, judged_call, outcome_of, outcome_in, Fulfils}
 use Rattle.history.specs.Opening.{Origin}
 use Rattle.history.specs.Events.{Event}
-use Rattle.history.specs.Readers.{sid_block, is_of, open_on}
+use Rattle.history.specs.Readers.{beside, is_of, open_on}
 use Rattle.tcg_calls.specs.Statuses.{transaction_failure}
 use Rattle.sessions.specs.Deeds.{Begun, Unchanged, Outcome, says, Ended, refuses as refuses_item}
 use Rattle.history.specs.Facts.{Facts, facts, has_open}
-use Rattle.history.specs.Tcg.{called_manager, to_manager, in_session, judgement_on, started, item_in, ends_session, ends_on}
+use Rattle.history.specs.Tcg.{called_manager, to_manager, in_session, judgement_on, started, item_in, ends_session, ends_on, properties_told, properties_with}
 use Rattle.history.specs.KeptStore.{KeepsStore}
 use Rattle.history.specs.KeptSessions.{KeepsSessions, id_of}
-use Rattle.sessions.specs.Made.{Meets}
+use Rattle.sessions.specs.Made.{Meets, beside_after}
 use Rattle.history.proofs.KeptCallsProofs.{kept_call_law}
 use Rattle.history.proofs.KeptSessionsStart.{start_law}
 use Rattle.tper.specs.Items.{AnswersAs, OfManager, OfSession}
 use Rattle.tper.proofs.Carried.{call_carried}
 use Rattle.audit.specs.declared.rules.rule.Rule.{Rule}
 use Rattle.audit.specs.declared.rules.rule.Rule.TheVariants.{NoneOpen}
+use Rattle.sessions.specs.declared.beside.HostLimits.{HostLimits}
+use Rattle.sessions.specs.declared.beside.Beside.{Beside}
+use Rattle.sessions.specs.Beside.{channel_of}
+use Rattle.sessions.specs.Properties.{host_told, told_deed, properties_deed}
 
 -- an answer that is this message can be carried, as the message can
 pub carried-as : (said : Message) (m : Message) → said ≡ m → is_carried m ≡ true → is_carried said ≡ true
@@ -89,9 +93,9 @@ pub start-met : (s t : Stored) (l m : Live) (com_id : ℕ) (object method : Uid)
     → ((n : ℕ) → session_at m n ≡ start_at s l com_id (map tree call.args.items) n)
     → m.next ≡ start_next s l (map tree call.args.items)
     → AreNumbered l
-    → m.block ≡ l.block
+    → m.beside ≡ l.beside
     → erasure ≡ no_sectors
-    → (o : Origin) (past : List Event) → KeepsStore s o past → KeepsSessions l past → l.block ≡ sid_block past
+    → (o : Origin) (past : List Event) → KeepsStore s o past → KeepsSessions l past → l.beside ≡ beside past
     → Meets (called_manager (facts o past) com_id object method (values_of (trees call.args.items))) said why rule erasure s t l m
 start-met s t l m com_id object method call said why rule erasure is-object is-method answered reasons ruled stored points next numbered stays none o past ks kl block =
     let args = map tree call.args.items in
@@ -103,6 +107,34 @@ start-met s t l m com_id object method call said why rule erasure is-object is-m
     let by-call = subst (λ (x : Outcome). Meets x said why rule no_sectors s t l m) (is-start (facts o past) com_id object method args is-object is-method) by-store in
     let by-args = subst (λ (x : List Tree). Meets (called_manager (facts o past) com_id object method x) said why rule no_sectors s t l m) (sym (values_trees call.args.items)) by-call in
     subst (λ (x : Erasure). Meets (called_manager (facts o past) com_id object method (values_of (trees call.args.items))) said why rule x s t l m) (sym none) by-args
+
+-- Properties
+is-properties : (f : Facts) (com_id : ℕ) (object method : Uid) (args : List Tree) → object ≡ session_manager → method ≡ properties → properties_told f com_id args ≡ called_manager f com_id object method args
+is-properties f com_id object method args h k =
+    ap (λ (u : Uid). called_manager f com_id u properties args) (sym h) ∙ ap (λ (u : Uid). called_manager f com_id object u args) (sym k)
+
+told-met : (s : Stored) (l : Live) (com_id : ℕ) (said : Message) (x : Option HostLimits) → Meets (says (told_deed com_id x) said) said None None no_sectors s s l (record l { beside = beside_after (told_deed com_id x) l.beside })
+told-met s l com_id said None = record { answer = refl; denied = refl; rule = refl; erases = refl; store = refl; sessions = record { next = refl; at = λ n. refl }; beside = refl }
+told-met s l com_id said (Some limits) = record { answer = refl; denied = refl; rule = refl; erases = refl; store = refl; sessions = record { next = refl; at = λ n. refl }; beside = refl }
+
+pub properties-met : (s : Stored) (l m : Live) (com_id : ℕ) (object method : Uid) (call : Call) (said : Message) (erasure : Erasure)
+    → object ≡ session_manager → method ≡ properties
+    → said ≡ properties_message s.config.profile (channel_of l.beside com_id).limits (map tree call.args.items)
+    → m ≡ record l { beside = beside_after (properties_deed s.config.profile com_id (channel_of l.beside com_id).limits (map tree call.args.items)) l.beside }
+    → erasure ≡ no_sectors
+    → (o : Origin) (past : List Event) → KeepsStore s o past → KeepsSessions l past → l.beside ≡ beside past
+    → Meets (called_manager (facts o past) com_id object method (values_of (trees call.args.items))) said None None erasure s s l m
+properties-met s l m com_id object method call said erasure is-object is-method answered kept none o past ks kl here =
+    let args = map tree call.args.items in
+    let limits = (channel_of l.beside com_id).limits in
+    let base = told-met s l com_id (properties_message s.config.profile limits args) (host_told s.config.profile limits args) in
+    let by-answer = subst (λ (x : Message). Meets (properties_with s.config.profile com_id limits args) x None None no_sectors s s l (record l { beside = beside_after (properties_deed s.config.profile com_id limits args) l.beside })) (sym answered) base in
+    let by-live = subst (λ (x : Live). Meets (properties_with s.config.profile com_id limits args) said None None no_sectors s s l x) (sym kept) by-answer in
+    let by-facts = subst (λ (x : Outcome). Meets x said None None no_sectors s s l m)
+    (ap (λ (c : Config). properties_with c.profile com_id limits args) ks.config ∙ ap (λ (b : Beside). properties_with o.tables.config.profile com_id (channel_of b com_id).limits args) here) by-live in
+    let by-call = subst (λ (x : Outcome). Meets x said None None no_sectors s s l m) (is-properties (facts o past) com_id object method args is-object is-method) by-facts in
+    let by-args = subst (λ (x : List Tree). Meets (called_manager (facts o past) com_id object method x) said None None no_sectors s s l m) (sym (values_trees call.args.items)) by-call in
+    subst (λ (x : Erasure). Meets (called_manager (facts o past) com_id object method (values_of (trees call.args.items))) said None None x s s l m) (sym none) by-args
 
 -- ---- what was read
 

@@ -3,10 +3,10 @@ use Rattle.std.proofs.Common.{◌≡◌, ℕ, Bool, true, false, List, ◌∷◌
 use Rattle.std.specs.Prelude.{unwrap_or}
 use Rattle.transactions.specs.Stored.{Stored}
 use Rattle.sessions.specs.Live.{Live}
-use Rattle.trusted_cmds.specs.declared.block.SidBlock.{SidBlock}
+use Rattle.sessions.specs.declared.beside.Beside.{Beside}
 use Rattle.history.specs.Opening.{Origin}
 use Rattle.history.specs.Events.{Deed, Nothing, OfQueue, Wrote, Chose, Event, or_else, latest}
-use Rattle.history.specs.Readers.{waits, waiting, block_then}
+use Rattle.history.specs.Readers.{waits, waiting, beside_then}
 use Rattle.history.specs.KeptStore.{StoresBy}
 use Rattle.history.specs.KeptSessions.{LivesBy}
 use Rattle.history.proofs.KeptStoreDeeds.{store_law}
@@ -35,12 +35,12 @@ spares-live (Wrote lba bytes) l h = record { next = refl; at = λ n. refl }
 spares-live (Chose feature) l h = record { next = refl; at = λ n. refl }
 spares-live _ l h = cc
 
-spares-block : (d : Deed) (block : SidBlock) → spares d ≡ true → block_then d block ≡ block
-spares-block Nothing block h = refl
-spares-block (OfQueue deed) block h = refl
-spares-block (Wrote lba bytes) block h = refl
-spares-block (Chose feature) block h = refl
-spares-block _ block h = cc
+spares-beside : (d : Deed) (b : Beside) → spares d ≡ true → beside_then d b ≡ b
+spares-beside Nothing b h = refl
+spares-beside (OfQueue deed) b h = refl
+spares-beside (Wrote lba bytes) b h = refl
+spares-beside (Chose feature) b h = refl
+spares-beside _ b h = cc
 
 spares-waiting : (d : Deed) (com_id : ℕ) → spares d ≡ true → waits com_id d ≡ None
 spares-waiting Nothing com_id h = refl
@@ -58,17 +58,17 @@ pub waiting_more : (e : Event) (past : List Event) (com_id : ℕ) → waiting (e
 waiting_more e past com_id = either (waits com_id e.deed) (latest (waits com_id) past)
 
 -- what a deed makes of the parts keeps what one more event says
-pub kept_after : (t u : Tper) (o : Origin) (past : List Event) (e : Event) → StoresBy e.deed t.store u.store → LivesBy e.deed t.live u.live → u.live.block ≡ block_then e.deed t.live.block
+pub kept_after : (t u : Tper) (o : Origin) (past : List Event) (e : Event) → StoresBy e.deed t.store u.store → LivesBy e.deed t.live u.live → u.live.beside ≡ beside_then e.deed t.live.beside
     → ((com_id : ℕ) → response_at u.waiting com_id ≡ unwrap_or (waits com_id e.deed) (response_at t.waiting com_id))
     → Keeps t o past → Keeps u o (e ∷ past)
-kept_after t u o past e store live block responses k = record {
+kept_after t u o past e store live here responses k = record {
   store = store_law o past e t.store u.store k.store store;
   sessions = sessions_law past e t.live u.live k.sessions live;
-  block = block ∙ ap (block_then e.deed) k.block;
+  beside = here ∙ ap (beside_then e.deed) k.beside;
   waiting = λ com_id. responses com_id ∙ ap (λ w. unwrap_or (waits com_id e.deed) w) (k.waiting com_id) ∙ sym (waiting_more e past com_id);
 }
 
 pub kept_beside : (t : Tper) (o : Origin) (past : List Event) (e : Event) → spares e.deed ≡ true → Keeps t o past → Keeps t o (e ∷ past)
 kept_beside t o past e h k =
-    kept_after t t o past e (spares-store e.deed t.store h) (spares-live e.deed t.live h) (sym (spares-block e.deed t.live.block h))
+    kept_after t t o past e (spares-store e.deed t.store h) (spares-live e.deed t.live h) (sym (spares-beside e.deed t.live.beside h))
     (λ com_id. sym (ap (λ w. unwrap_or w (response_at t.waiting com_id)) (spares-waiting e.deed com_id h))) k

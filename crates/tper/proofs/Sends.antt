@@ -4,7 +4,8 @@ use Rattle.std.specs.Prelude.{Result, Ok, Err, IfOk, OnOk, option_map}
 use Rattle.sp_cells.specs.declared.names.Sp.{Sp}
 use Rattle.compacket.specs.declared.session.Session.{Session}
 use Rattle.compacket.specs.declared.error.FrameError.{FrameError}
-use Rattle.compacket.specs.Frames.{Frame}
+use Rattle.compacket.specs.declared.session.Named.{Named as Broken}
+use Rattle.compacket.specs.Frames.{Frame, reading as frame_in}
 use Rattle.tcg_tokens.specs.Reading.{reading as message_in}
 use Rattle.transactions.specs.declared.change.SessionId.{SessionId}
 use Rattle.shadow_mbr.specs.Erasure.{no_sectors}
@@ -15,7 +16,7 @@ use Rattle.sessions.specs.Deeds.{Begun}
 use Rattle.history.specs.Events.{Event, Nothing, did, ignores}
 use Rattle.history.specs.Readers.{session_on}
 use Rattle.history.specs.Facts.{Facts, facts, session_named}
-use Rattle.history.specs.Tcg.{is_manager, answers, breaks_off, broken_off, is_discarded, manager_event, to_manager, in_session, to_session, framed, sent, item_in}
+use Rattle.history.specs.Tcg.{is_manager, answers, breaks_off, broken_off, is_discarded, manager_event, to_manager, in_session, to_session, framed, unframed_in, unframed, broken_of, sent_by, sent, item_in}
 use Rattle.history.specs.History.{Act, log}
 use Rattle.history.specs.KeptSessions.{KeepsSessions, id_of}
 use Rattle.history.proofs.Items.{named-lives}
@@ -23,10 +24,10 @@ use Rattle.history.proofs.Words.{sp-same}
 use Rattle.history.proofs.KeptSessionsNamed.{named_law}
 use Rattle.tper.specs.declared.trusted.Sent.{Sent}
 use Rattle.sp_cells.specs.Config.{Config}
-use Rattle.tper.specs.Tper.{Tper, Keeps, IsToldOfSend, Manages, ServesSession}
+use Rattle.tper.specs.Tper.{Tper, Keeps, IsToldOfSend, IsIgnored, Manages, ServesSession, EndsFound, found_in, named_for, IsUnframed}
 use Rattle.tper.proofs.KeptBeside.{spares, kept_beside}
 use Rattle.tper.proofs.Keeping.{answer-kept, answer-sent, broken-kept}
-use Rattle.audit.specs.declared.rules.rule.Rule.TheVariants.{NoFrame, NoSession, Discarded}
+use Rattle.audit.specs.declared.rules.rule.Rule.TheVariants.{NoFrame, NoSession, Discarded, BrokenOff, NoSubpacket}
 use Rattle.audit.specs.declared.rules.rule.Rule.{Rule}
 
 pub on-ok : {A E : Type 0} (r : Result A E) (P : A → Type 0) (Q : Type 0) → IfOk r P → ((x : A) → P x → Q) → OnOk r Q
@@ -52,9 +53,6 @@ pub record IsFor (read : Result Frame FrameError) (com_id : ℕ) (frame : Frame)
   pub reads : read ≡ Ok frame
   pub own : frame.com_id ≡ com_id
 
-pub no-frame : (f : Facts) (com_id : ℕ) (read : Result Frame FrameError) (e : FrameError) → read ≡ Err e → sent f com_id read ≡ ignores NoFrame
-no-frame f com_id read e h = ap (λ (r : Result Frame FrameError). sent f com_id r) h
-
 differs : (n k : ℕ) → (n ≡ k → ⊥) → (n == k) ≡ false
 differs n k h = by (n == k) refl
   where
@@ -62,24 +60,24 @@ differs n k h = by (n == k) refl
     by true e = absurd (h (eqb-true n k e))
     by false e = e
 
-pub other-frame : (f : Facts) (com_id : ℕ) (read : Result Frame FrameError) (frame : Frame) → read ≡ Ok frame → (frame.com_id ≡ com_id → ⊥) → sent f com_id read ≡ ignores NoFrame
-other-frame f com_id read frame h g =
-    ap (λ (r : Result Frame FrameError). sent f com_id r) h ∙ ap (λ (b : Bool). cond b (framed f com_id frame) (ignores NoFrame)) (differs frame.com_id com_id g)
+pub other-frame : (f : Facts) (com_id : ℕ) (broken : Option Broken) (read : Result Frame FrameError) (frame : Frame) → read ≡ Ok frame → (frame.com_id ≡ com_id → ⊥) → sent_by f com_id broken read ≡ ignores NoFrame
+other-frame f com_id broken read frame h g =
+    ap (λ (r : Result Frame FrameError). sent_by f com_id broken r) h ∙ ap (λ (b : Bool). cond b (framed f com_id frame) (ignores NoFrame)) (differs frame.com_id com_id g)
 
-own-frame : (f : Facts) (com_id : ℕ) (read : Result Frame FrameError) (frame : Frame) → IsFor read com_id frame → sent f com_id read ≡ framed f com_id frame
-own-frame f com_id read frame h =
-    ap (λ (r : Result Frame FrameError). sent f com_id r) h.reads ∙ ap (λ (b : Bool). cond b (framed f com_id frame) (ignores NoFrame)) (eq-eqb frame.com_id com_id h.own)
+own-frame : (f : Facts) (com_id : ℕ) (broken : Option Broken) (read : Result Frame FrameError) (frame : Frame) → IsFor read com_id frame → sent_by f com_id broken read ≡ framed f com_id frame
+own-frame f com_id broken read frame h =
+    ap (λ (r : Result Frame FrameError). sent_by f com_id broken r) h.reads ∙ ap (λ (b : Bool). cond b (framed f com_id frame) (ignores NoFrame)) (eq-eqb frame.com_id com_id h.own)
 
-by-manager : (f : Facts) (com_id : ℕ) (read : Result Frame FrameError) (frame : Frame) → IsFor read com_id frame → is_manager frame.session ≡ true
-    → sent f com_id read ≡ manager_event f com_id frame.session (message_in frame.payload)
-by-manager f com_id read frame h m =
-    own-frame f com_id read frame h
+by-manager : (f : Facts) (com_id : ℕ) (broken : Option Broken) (read : Result Frame FrameError) (frame : Frame) → IsFor read com_id frame → is_manager frame.session ≡ true
+    → sent_by f com_id broken read ≡ manager_event f com_id frame.session (message_in frame.payload)
+by-manager f com_id broken read frame h m =
+    own-frame f com_id broken read frame h
     ∙ ap (λ (b : Bool). cond b (manager_event f com_id frame.session (message_in frame.payload)) (to_session f com_id frame.session frame.payload (session_named f com_id frame.session))) m
 
-by-session : (f : Facts) (com_id : ℕ) (read : Result Frame FrameError) (frame : Frame) (x : Option Begun) → IsFor read com_id frame → is_manager frame.session ≡ false → session_named f com_id frame.session ≡ x
-    → sent f com_id read ≡ to_session f com_id frame.session frame.payload x
-by-session f com_id read frame x h m named =
-    own-frame f com_id read frame h
+by-session : (f : Facts) (com_id : ℕ) (broken : Option Broken) (read : Result Frame FrameError) (frame : Frame) (x : Option Begun) → IsFor read com_id frame → is_manager frame.session ≡ false → session_named f com_id frame.session ≡ x
+    → sent_by f com_id broken read ≡ to_session f com_id frame.session frame.payload x
+by-session f com_id broken read frame x h m named =
+    own-frame f com_id broken read frame h
     ∙ ap (λ (b : Bool). cond b (manager_event f com_id frame.session (message_in frame.payload)) (to_session f com_id frame.session frame.payload (session_named f com_id frame.session))) m
     ∙ ap (λ (s : Option Begun). to_session f com_id frame.session frame.payload s) named
 
@@ -166,64 +164,119 @@ abbrev pub BySession : Tper → Tper → ℕ → Frame → SessionId → Sent �
 BySession t u com_id frame id s = ServesSession com_id frame.session id frame.payload s t u
 
 -- what is discarded, and what is not, by what is kept and by the past
-manager-is-event : (t : Tper) (o : Origin) (past : List Event) (com_id : ℕ) (read : Result Frame FrameError) (frame : Frame) (b : Bool) → IsFor read com_id frame → is_manager frame.session ≡ true → Keeps t o past → is_discarded t.store.config.profile (message_in frame.payload) ≡ b
-    → sent (facts o past) com_id read ≡ cond b (ignores Discarded) (answers com_id frame.session (to_manager (facts o past) com_id (message_in frame.payload)))
-manager-is-event t o past com_id read frame b h m k is =
-    by-manager (facts o past) com_id read frame h m
+manager-is-event : (t : Tper) (o : Origin) (past : List Event) (com_id : ℕ) (broken : Option Broken) (read : Result Frame FrameError) (frame : Frame) (b : Bool) → IsFor read com_id frame → is_manager frame.session ≡ true → Keeps t o past → is_discarded t.store.config.profile (message_in frame.payload) ≡ b
+    → sent_by (facts o past) com_id broken read ≡ cond b (ignores Discarded) (answers com_id frame.session (to_manager (facts o past) com_id (message_in frame.payload)))
+manager-is-event t o past com_id broken read frame b h m k is =
+    by-manager (facts o past) com_id broken read frame h m
     ∙ ap (λ (x : Bool). cond x (ignores Discarded) (answers com_id frame.session (to_manager (facts o past) com_id (message_in frame.payload))))
     (sym (ap (λ (config : Config). is_discarded config.profile (message_in frame.payload)) k.store.config) ∙ is)
 
-session-is-event : (t : Tper) (o : Origin) (past : List Event) (com_id : ℕ) (read : Result Frame FrameError) (frame : Frame) (its : Begun) (b : Bool) → IsFor read com_id frame → is_manager frame.session ≡ false → session_named (facts o past) com_id frame.session ≡ Some its → Keeps t o past
+session-is-event : (t : Tper) (o : Origin) (past : List Event) (com_id : ℕ) (broken : Option Broken) (read : Result Frame FrameError) (frame : Frame) (its : Begun) (b : Bool) → IsFor read com_id frame → is_manager frame.session ≡ false → session_named (facts o past) com_id frame.session ≡ Some its → Keeps t o past
     → breaks_off t.store.config.profile (item_in t.store.config.profile frame.payload) ≡ b
-    → sent (facts o past) com_id read ≡ cond b (broken_off its.sp) (answers com_id frame.session (in_session (facts o past) its (item_in (facts o past).config.profile frame.payload)))
-session-is-event t o past com_id read frame its b h m named k is =
-    by-session (facts o past) com_id read frame (Some its) h m named
-    ∙ ap (λ (x : Bool). cond x (broken_off its.sp) (answers com_id frame.session (in_session (facts o past) its (item_in (facts o past).config.profile frame.payload))))
+    → sent_by (facts o past) com_id broken read ≡ cond b (broken_off BrokenOff its.sp) (answers com_id frame.session (in_session (facts o past) its (item_in (facts o past).config.profile frame.payload)))
+session-is-event t o past com_id broken read frame its b h m named k is =
+    by-session (facts o past) com_id broken read frame (Some its) h m named
+    ∙ ap (λ (x : Bool). cond x (broken_off BrokenOff its.sp) (answers com_id frame.session (in_session (facts o past) its (item_in (facts o past).config.profile frame.payload))))
     (sym (ap (λ (config : Config). breaks_off config.profile (item_in config.profile frame.payload)) k.store.config) ∙ is)
 
-pub manager-kept : (t u : Tper) (o : Origin) (acts : List Act) (com_id : ℕ) (read : Result Frame FrameError) (frame : Frame) (s : Sent) → IsFor read com_id frame → is_manager frame.session ≡ true
-    → ByManager t u com_id frame s → Keeps t o (log o acts) → Keeps u o (sent (facts o (log o acts)) com_id read ∷ log o acts)
-manager-kept t u o acts com_id read frame s h m (inl its) k =
-    subst (λ (x : Tper). Keeps x o (sent (facts o (log o acts)) com_id read ∷ log o acts)) (sym its.1.unchanged)
-    (nothing-kept t o (log o acts) _ Discarded (manager-is-event t o (log o acts) com_id read frame true h m k its.0) k)
-manager-kept t u o acts com_id read frame s h m (inr its) k =
-    subst (λ (e : Event). Keeps u o (e ∷ log o acts)) (sym (manager-is-event t o (log o acts) com_id read frame false h m k its.0))
-    (answer-kept t u o (log o acts) com_id frame.session _ its.1.said (its.1.met o (log o acts) k.store k.sessions k.block) its.1.responds k)
+pub manager-kept : (t u : Tper) (o : Origin) (acts : List Act) (com_id : ℕ) (broken : Option Broken) (read : Result Frame FrameError) (frame : Frame) (s : Sent) → IsFor read com_id frame → is_manager frame.session ≡ true
+    → ByManager t u com_id frame s → Keeps t o (log o acts) → Keeps u o (sent_by (facts o (log o acts)) com_id broken read ∷ log o acts)
+manager-kept t u o acts com_id broken read frame s h m (inl its) k =
+    subst (λ (x : Tper). Keeps x o (sent_by (facts o (log o acts)) com_id broken read ∷ log o acts)) (sym its.1.unchanged)
+    (nothing-kept t o (log o acts) _ Discarded (manager-is-event t o (log o acts) com_id broken read frame true h m k its.0) k)
+manager-kept t u o acts com_id broken read frame s h m (inr its) k =
+    subst (λ (e : Event). Keeps u o (e ∷ log o acts)) (sym (manager-is-event t o (log o acts) com_id broken read frame false h m k its.0))
+    (answer-kept t u o (log o acts) com_id frame.session _ its.1.said (its.1.met o (log o acts) k.store k.sessions k.beside) its.1.responds k)
 
-pub manager-sent : (t u : Tper) (o : Origin) (acts : List Act) (com_id : ℕ) (read : Result Frame FrameError) (frame : Frame) (s : Sent) → IsFor read com_id frame → is_manager frame.session ≡ true
-    → ByManager t u com_id frame s → Keeps t o (log o acts) → IsToldOfSend (sent (facts o (log o acts)) com_id read) s
-manager-sent t u o acts com_id read frame s h m (inl its) k =
-    nothing-sent _ Discarded s its.1.denied its.1.by its.1.erases (manager-is-event t o (log o acts) com_id read frame true h m k its.0)
-manager-sent t u o acts com_id read frame s h m (inr its) k =
-    subst (λ (e : Event). IsToldOfSend e s) (sym (manager-is-event t o (log o acts) com_id read frame false h m k its.0))
-    (answer-sent t u com_id frame.session _ its.1.said s (its.1.met o (log o acts) k.store k.sessions k.block) its.1.denied its.1.rule its.1.erases)
+pub manager-sent : (t u : Tper) (o : Origin) (acts : List Act) (com_id : ℕ) (broken : Option Broken) (read : Result Frame FrameError) (frame : Frame) (s : Sent) → IsFor read com_id frame → is_manager frame.session ≡ true
+    → ByManager t u com_id frame s → Keeps t o (log o acts) → IsToldOfSend (sent_by (facts o (log o acts)) com_id broken read) s
+manager-sent t u o acts com_id broken read frame s h m (inl its) k =
+    nothing-sent _ Discarded s its.1.denied its.1.by its.1.erases (manager-is-event t o (log o acts) com_id broken read frame true h m k its.0)
+manager-sent t u o acts com_id broken read frame s h m (inr its) k =
+    subst (λ (e : Event). IsToldOfSend e s) (sym (manager-is-event t o (log o acts) com_id broken read frame false h m k its.0))
+    (answer-sent t u com_id frame.session _ its.1.said s (its.1.met o (log o acts) k.store k.sessions k.beside) its.1.denied its.1.rule its.1.erases)
 
-pub session-kept : (t u : Tper) (o : Origin) (acts : List Act) (com_id : ℕ) (read : Result Frame FrameError) (frame : Frame) (id : SessionId) (s : Sent) → IsFor read com_id frame → is_manager frame.session ≡ false
+pub session-kept : (t u : Tper) (o : Origin) (acts : List Act) (com_id : ℕ) (broken : Option Broken) (read : Result Frame FrameError) (frame : Frame) (id : SessionId) (s : Sent) → IsFor read com_id frame → is_manager frame.session ≡ false
     → found_at t.live com_id frame.session ≡ Some id
-    → BySession t u com_id frame id s → Keeps t o (log o acts) → Keeps u o (sent (facts o (log o acts)) com_id read ∷ log o acts)
-session-kept t u o acts com_id read frame id s h m named (inl its) k =
+    → BySession t u com_id frame id s → Keeps t o (log o acts) → Keeps u o (sent_by (facts o (log o acts)) com_id broken read ∷ log o acts)
+session-kept t u o acts com_id broken read frame id s h m named (inl its) k =
     let n = somebody o (log o acts) t.live com_id frame.session id k.sessions named in
-    subst (λ (e : Event). Keeps u o (e ∷ log o acts)) (sym (session-is-event t o (log o acts) com_id read frame n.its true h m n.by_past k its.0))
-    (broken-kept t u o (log o acts) n.its.sp its.1.said (its.1.met o acts n.its k.store k.sessions k.block n.lives n.is) its.1.waiting k)
-session-kept t u o acts com_id read frame id s h m named (inr its) k =
+    subst (λ (e : Event). Keeps u o (e ∷ log o acts)) (sym (session-is-event t o (log o acts) com_id broken read frame n.its true h m n.by_past k its.0))
+    (broken-kept t u o (log o acts) BrokenOff n.its.sp its.1.said (its.1.met o acts n.its k.store k.sessions k.beside n.lives n.is) its.1.waiting k)
+session-kept t u o acts com_id broken read frame id s h m named (inr its) k =
     let n = somebody o (log o acts) t.live com_id frame.session id k.sessions named in
-    subst (λ (e : Event). Keeps u o (e ∷ log o acts)) (sym (session-is-event t o (log o acts) com_id read frame n.its false h m n.by_past k its.0))
-    (answer-kept t u o (log o acts) com_id frame.session _ its.1.said (its.1.met o acts n.its k.store k.sessions k.block n.lives n.is) its.1.responds k)
+    subst (λ (e : Event). Keeps u o (e ∷ log o acts)) (sym (session-is-event t o (log o acts) com_id broken read frame n.its false h m n.by_past k its.0))
+    (answer-kept t u o (log o acts) com_id frame.session _ its.1.said (its.1.met o acts n.its k.store k.sessions k.beside n.lives n.is) its.1.responds k)
 
-pub session-sent : (t u : Tper) (o : Origin) (acts : List Act) (com_id : ℕ) (read : Result Frame FrameError) (frame : Frame) (id : SessionId) (s : Sent) → IsFor read com_id frame → is_manager frame.session ≡ false
+pub session-sent : (t u : Tper) (o : Origin) (acts : List Act) (com_id : ℕ) (broken : Option Broken) (read : Result Frame FrameError) (frame : Frame) (id : SessionId) (s : Sent) → IsFor read com_id frame → is_manager frame.session ≡ false
     → found_at t.live com_id frame.session ≡ Some id
-    → BySession t u com_id frame id s → Keeps t o (log o acts) → IsToldOfSend (sent (facts o (log o acts)) com_id read) s
-session-sent t u o acts com_id read frame id s h m named (inl its) k =
+    → BySession t u com_id frame id s → Keeps t o (log o acts) → IsToldOfSend (sent_by (facts o (log o acts)) com_id broken read) s
+session-sent t u o acts com_id broken read frame id s h m named (inl its) k =
     let n = somebody o (log o acts) t.live com_id frame.session id k.sessions named in
-    subst (λ (e : Event). IsToldOfSend e s) (sym (session-is-event t o (log o acts) com_id read frame n.its true h m n.by_past k its.0))
+    subst (λ (e : Event). IsToldOfSend e s) (sym (session-is-event t o (log o acts) com_id broken read frame n.its true h m n.by_past k its.0))
     (record { failed = refl; denied = its.1.denied; rule = its.1.rule; erases = its.1.erases })
-session-sent t u o acts com_id read frame id s h m named (inr its) k =
+session-sent t u o acts com_id broken read frame id s h m named (inr its) k =
     let n = somebody o (log o acts) t.live com_id frame.session id k.sessions named in
-    subst (λ (e : Event). IsToldOfSend e s) (sym (session-is-event t o (log o acts) com_id read frame n.its false h m n.by_past k its.0))
-    (answer-sent t u com_id frame.session _ its.1.said s (its.1.met o acts n.its k.store k.sessions k.block n.lives n.is) its.1.denied its.1.rule its.1.erases)
+    subst (λ (e : Event). IsToldOfSend e s) (sym (session-is-event t o (log o acts) com_id broken read frame n.its false h m n.by_past k its.0))
+    (answer-sent t u com_id frame.session _ its.1.said s (its.1.met o acts n.its k.store k.sessions k.beside n.lives n.is) its.1.denied its.1.rule its.1.erases)
 
-pub nobody-named : (t : Tper) (o : Origin) (past : List Event) (com_id : ℕ) (read : Result Frame FrameError) (frame : Frame) → IsFor read com_id frame → is_manager frame.session ≡ false
+pub nobody-named : (t : Tper) (o : Origin) (past : List Event) (com_id : ℕ) (broken : Option Broken) (read : Result Frame FrameError) (frame : Frame) → IsFor read com_id frame → is_manager frame.session ≡ false
     → found_at t.live com_id frame.session ≡ None
-    → Keeps t o past → sent (facts o past) com_id read ≡ ignores NoSession
-nobody-named t o past com_id read frame h m none k =
-    by-session (facts o past) com_id read frame None h m (nobody o past t.live com_id frame.session k.sessions none)
+    → Keeps t o past → sent_by (facts o past) com_id broken read ≡ ignores NoSession
+nobody-named t o past com_id broken read frame h m none k =
+    by-session (facts o past) com_id broken read frame None h m (nobody o past t.live com_id frame.session k.sessions none)
+
+-- ---- what carries no whole subpacket
+
+ignored-kept : (t u : Tper) (o : Origin) (past : List Event) (rule : Rule) (s : Sent) → IsIgnored rule s t u → Keeps t o past → Keeps u o (ignores rule ∷ past)
+ignored-kept t u o past rule s its k = subst (λ (x : Tper). Keeps x o (ignores rule ∷ past)) (sym its.unchanged) (nothing-kept t o past (ignores rule) rule refl k)
+
+ignored-sent : (t u : Tper) (rule : Rule) (s : Sent) → IsIgnored rule s t u → IsToldOfSend (ignores rule) s
+ignored-sent t u rule s its = nothing-sent (ignores rule) rule s its.denied its.by its.erases refl
+
+unframed-at : (t u : Tper) (o : Origin) (acts : List Act) (com_id : ℕ) (broken : Option Broken) (s : Sent) → EndsFound (named_for com_id broken t.live) s t u → Keeps t o (log o acts) → Keeps u o (unframed (facts o (log o acts)) com_id broken ∷ log o acts)
+unframed-at t u o acts com_id None s its k = ignored-kept t u o (log o acts) NoFrame s its k
+unframed-at t u o acts com_id (Some named) s its k = by_id (named.com_id == com_id) its
+  where
+    by_found : (x : Option SessionId) → found_in t.live com_id named.session ≡ x → EndsFound x s t u → Keeps u o (unframed_in (session_named (facts o (log o acts)) com_id named.session) ∷ log o acts)
+    by_found None is got =
+        subst (λ (y : Option Begun). Keeps u o (unframed_in y ∷ log o acts)) (sym (nobody o (log o acts) t.live com_id named.session k.sessions is)) (ignored-kept t u o (log o acts) NoFrame s got k)
+    by_found (Some id) is got =
+        let n = somebody o (log o acts) t.live com_id named.session id k.sessions is in
+        subst (λ (y : Option Begun). Keeps u o (unframed_in y ∷ log o acts)) (sym n.by_past)
+        (broken-kept t u o (log o acts) NoSubpacket n.its.sp got.said (got.met o acts n.its k.store k.sessions k.beside n.lives n.is) got.waiting k)
+
+    by_id : (b : Bool) → EndsFound (cond b (found_in t.live com_id named.session) None) s t u → Keeps u o (cond b (unframed_in (session_named (facts o (log o acts)) com_id named.session)) (ignores NoFrame) ∷ log o acts)
+    by_id false got = ignored-kept t u o (log o acts) NoFrame s got k
+    by_id true got = by_found (found_in t.live com_id named.session) refl got
+
+unframed-told : (t u : Tper) (o : Origin) (acts : List Act) (com_id : ℕ) (broken : Option Broken) (s : Sent) → EndsFound (named_for com_id broken t.live) s t u → Keeps t o (log o acts) → IsToldOfSend (unframed (facts o (log o acts)) com_id broken) s
+unframed-told t u o acts com_id None s its k = ignored-sent t u NoFrame s its
+unframed-told t u o acts com_id (Some named) s its k = by_id (named.com_id == com_id) its
+  where
+    by_found : (x : Option SessionId) → found_in t.live com_id named.session ≡ x → EndsFound x s t u → IsToldOfSend (unframed_in (session_named (facts o (log o acts)) com_id named.session)) s
+    by_found None is got =
+        subst (λ (y : Option Begun). IsToldOfSend (unframed_in y) s) (sym (nobody o (log o acts) t.live com_id named.session k.sessions is)) (ignored-sent t u NoFrame s got)
+    by_found (Some id) is got =
+        let n = somebody o (log o acts) t.live com_id named.session id k.sessions is in
+        subst (λ (y : Option Begun). IsToldOfSend (unframed_in y) s) (sym n.by_past)
+        (record { failed = refl; denied = got.denied; rule = got.rule; erases = got.erases })
+
+    by_id : (b : Bool) → EndsFound (cond b (found_in t.live com_id named.session) None) s t u → IsToldOfSend (cond b (unframed_in (session_named (facts o (log o acts)) com_id named.session)) (ignores NoFrame)) s
+    by_id false got = ignored-sent t u NoFrame s got
+    by_id true got = by_found (found_in t.live com_id named.session) refl got
+
+unframed-is : (t : Tper) (o : Origin) (past : List Event) (com_id : ℕ) (payload : List ℕ) (e : FrameError) → frame_in payload ≡ Err e → Keeps t o past → sent (facts o past) com_id payload ≡ unframed (facts o past) com_id (broken_of t.store.config.profile payload)
+unframed-is t o past com_id payload e h k =
+    ap (λ (r : Result Frame FrameError). sent_by (facts o past) com_id (broken_of o.tables.config.profile payload) r) h
+    ∙ ap (λ (config : Config). unframed (facts o past) com_id (broken_of config.profile payload)) (sym k.store.config)
+
+pub unframed-kept : (t u : Tper) (o : Origin) (acts : List Act) (com_id : ℕ) (payload : List ℕ) (e : FrameError) (s : Sent) → frame_in payload ≡ Err e → IsUnframed com_id payload s t u → Keeps t o (log o acts)
+    → Keeps u o (sent (facts o (log o acts)) com_id payload ∷ log o acts)
+unframed-kept t u o acts com_id payload e s h its k =
+    subst (λ (x : Event). Keeps u o (x ∷ log o acts)) (sym (unframed-is t o (log o acts) com_id payload e h k)) (unframed-at t u o acts com_id (broken_of t.store.config.profile payload) s its k)
+
+pub unframed-sent : (t u : Tper) (o : Origin) (acts : List Act) (com_id : ℕ) (payload : List ℕ) (e : FrameError) (s : Sent) → frame_in payload ≡ Err e → IsUnframed com_id payload s t u → Keeps t o (log o acts)
+    → IsToldOfSend (sent (facts o (log o acts)) com_id payload) s
+unframed-sent t u o acts com_id payload e s h its k =
+    subst (λ (x : Event). IsToldOfSend x s) (sym (unframed-is t o (log o acts) com_id payload e h k)) (unframed-told t u o acts com_id (broken_of t.store.config.profile payload) s its k)

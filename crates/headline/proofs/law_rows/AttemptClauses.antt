@@ -31,7 +31,7 @@ use Rattle.history.specs.KeptSessions.{KeepsSessions, id_of}
 use Rattle.history.specs.KeptStore.{KeepsStore}
 use Rattle.history.specs.MethodLaws.{CallLaw, ActEffectLaw, IsCall}
 use Rattle.history.specs.Opening.{Origin}
-use Rattle.history.specs.Readers.{session_on, sid_block, tries}
+use Rattle.history.specs.Readers.{session_on, beside, tries}
 use Rattle.history.specs.Tcg.{answers, judgement_on}
 use Rattle.history.specs.TriesLaw.{TriesLaw, LimitLaw}
 use Rattle.headline.proofs.law_rows.Lists.{not_both}
@@ -121,12 +121,12 @@ done_is_granted law f act session object method args c ask shaped effect does_so
 -- `kept`: by what is kept it comes to the same.
 kept_says : KeptCallLaw → (o : Origin) (acts : List Act) (s : Stored) (l : Live) (session : Begun)
     (object method : Uid) (args : Trees) → KeepsStore s o (log o acts) → KeepsSessions l (log o acts)
-    → l.block ≡ sid_block (log o acts) → session_on (log o acts) session.sp ≡ Some session
+    → l.beside ≡ beside (log o acts) → session_on (log o acts) session.sp ≡ Some session
     → (outcome_in s (id_of session) (judged_with s l (id_of session) object method (values_of args))).deed
     ≡ (outcome_of (facts o (log o acts)).rows session.sp
     (judgement_on (facts o (log o acts)) session object method args)).deed
-kept_says law o acts s l session object method args stored live block lives =
-    ap (λ out. out.deed) (law o acts s l session object method args stored live block lives)
+kept_says law o acts s l session object method args stored live known lives =
+    ap (λ out. out.deed) (law o acts s l session object method args stored live known lives)
 
 -- `reasons`: each kind of denial has its reason, and a reason is of one of the four.
 transfer_has_reason : DenialLaw → (f : Facts) (act : Act) (why : Why) → TransferDenied f act why

@@ -108,7 +108,7 @@ authenticate_tries : (f : Facts) (session : Begun) (object authority : Uid) (pin
     → (attempt : Attempt) × (deed ≡ Tried attempt) × (attempt.sp ≡ session.sp)
     × (attempt.authority ≡ authority)
     × (attempt.row ≡ credential f.rows session.sp authority)
-    × (attempt.failure ≡ attempt_failure f.block f.rows session.sp authority pin)
+    × (attempt.failure ≡ attempt_failure f.beside.block f.rows session.sp authority pin)
 authenticate_tries f session object authority pin deed effect = effect
 
 -- Activate copies SID's PIN where the Locking SP is not in use, and else does nothing.

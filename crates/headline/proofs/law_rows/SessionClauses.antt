@@ -27,7 +27,7 @@ use Rattle.history.specs.KeptCalls.{StartLaw}
 use Rattle.history.specs.KeptSessions.{SessionsOpeningLaw, SessionsLaw, NamedLaw, KeepsSessions, IsKeptAs, LivesBy, session_numbered, id_of}
 use Rattle.history.specs.KeptStore.{StoreOpeningLaw, KnownRowsLaw, StoreLaw, StoreReadLaw, KeepsStore, HasKnownRows, StoresBy, but_tries, is_cleared, has_locks}
 use Rattle.history.specs.Opening.{Origin, origin_on, factory_origin, origin_with}
-use Rattle.history.specs.Readers.{session_on, next_number, in_force, view, byte_in_force, byte_in_view, rows_after, sid_block}
+use Rattle.history.specs.Readers.{session_on, next_number, in_force, view, byte_in_force, byte_in_view, rows_after, beside}
 use Rattle.history.specs.Tcg.{started}
 
 -- `opened`: no sessions, of which the first will be 1000h, are kept as those of no past.
@@ -62,14 +62,14 @@ named_says law o live past com_id named kept = law o live past com_id named kept
 -- `started`: a StartSession is answered and denied as by the past.
 started_says_so : StartLaw → (o : Origin) (past : List Event) (s : Stored) (l m : Live) (com_id : ℕ)
     (args : List Tree) → KeepsStore s o past → KeepsSessions l past → AreNumbered l
-    → l.block ≡ sid_block past → m.block ≡ l.block → m.next ≡ start_next s l args
+    → l.beside ≡ beside past → m.beside ≡ l.beside → m.next ≡ start_next s l args
     → ((n : ℕ) → session_at m n ≡ start_at s l com_id args n)
     → (start_reply s l args ≡ (started (facts o past) com_id args).said)
     × (start_denied s l args ≡ (started (facts o past) com_id args).denied)
     × (start_rule s l args ≡ (started (facts o past) com_id args).rule)
     × (no_sectors ≡ erased_by (started (facts o past) com_id args).deed)
-started_says_so law o past s l m com_id args stored kept numbered block same next at =
-    let its = law o past s l m com_id args stored kept numbered block same next at in
+started_says_so law o past s l m com_id args stored kept numbered known same next at =
+    let its = law o past s l m com_id args stored kept numbered known same next at in
     (its.answer, its.denied, its.rule, its.erases)
 
 -- A store's `opened`: the tables and zeros of a new one are those of no past.

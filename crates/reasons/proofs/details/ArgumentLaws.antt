@@ -5,16 +5,16 @@ use Rattle.basics.specs.declared.profile.Profile.{Profile}
 use Rattle.basics.specs.declared.profile.Profile.TheVariants.{Base, Field, Opal}
 use Rattle.sp_cells.specs.declared.names.Sp.{Sp}
 use Rattle.sp_cells.specs.declared.names.Uid.{Uid}
-use Rattle.sp_cells.specs.Names.{get, set, authenticate, activate, revert, gen_key, revert_sp, next, get_acl}
+use Rattle.sp_cells.specs.Names.{get, set, authenticate, activate, revert, gen_key, revert_sp, next, get_acl, random}
 use Rattle.tcg_tokens.specs.Tree.{Tree, number, bytes, list, named}
 use Rattle.tcg_calls.specs.declared.call_shapes.ask.Ask.{Ask}
 use Rattle.tcg_calls.specs.declared.call_shapes.ask.Ask.TheVariants as asks
-use Rattle.tcg_calls.specs.Asks.{uid_of, uid_in, is_byte_table, cellblock_in, columns_between, columns_asked_in, is_ordered, rows_between, rows_in, cells_of, cells_to_set, cells_in, bytes_to_set, bytes_in, proof_of, proof_in, attempt_in, without_arguments, get_of, set_of, keep_of, keep_in, row_if_any, rows_asked_behind, next_in, line_asked, get_acl_of, field_ask_of, opal_ask_of, other_ask_of, ask_of}
+use Rattle.tcg_calls.specs.Asks.{uid_of, uid_in, is_byte_table, cellblock_in, columns_between, columns_asked_in, is_ordered, rows_between, rows_in, cells_of, cells_to_set, cells_in, bytes_to_set, bytes_in, proof_of, proof_in, attempt_in, without_arguments, get_of, set_of, keep_of, keep_in, row_if_any, rows_asked_behind, next_in, line_asked, get_acl_of, random_of, field_ask_of, opal_ask_of, other_ask_of, ask_of}
 use Rattle.tcg_calls.specs.Parameters.{start_row_parameter, end_row_parameter, start_column_parameter, end_column_parameter, where_parameter, values_parameter, next_where_parameter, next_count_parameter, proof_parameter, keep_global_range_key_parameter}
 use Rattle.tcg_calls.specs.Named.{list_in, assignments, value_of, options, number_or, number_if_any, bytes_or_empty}
 use Rattle.reasons.specs.declared.arguments.ArgumentFault.{ArgumentFault}
 use Rattle.reasons.specs.declared.arguments.ArgumentFault.TheVariants as faults
-use Rattle.reasons.specs.Arguments.{row_order_fault, rows_fault, column_order_fault, columns_fault, block_fault, get_fault, assigned_fault, list_fault, values_fault, cells_fault, content_fault, bytes_fault, put_fault, proof_fault, attempt_fault, none_fault, keep_fault, revert_sp_fault, is_row, next_fault, line_fault, field_fault, opal_fault, other_fault, argument_fault, ArgumentLaw}
+use Rattle.reasons.specs.Arguments.{row_order_fault, rows_fault, column_order_fault, columns_fault, block_fault, get_fault, assigned_fault, list_fault, values_fault, cells_fault, content_fault, bytes_fault, put_fault, proof_fault, attempt_fault, none_fault, keep_fault, revert_sp_fault, is_row, next_fault, line_fault, random_fault, field_fault, opal_fault, other_fault, argument_fault, ArgumentLaw}
 
 -- one of them
 abbrev Told : Option ArgumentFault → Option Ask → Type 0
@@ -172,6 +172,17 @@ lines (object ∷ []) = refl
 lines (object ∷ method ∷ []) = two-names (uid_in object) (uid_in method)
 lines (object ∷ method ∷ t ∷ ts) = refl
 
+one-number : (args : List Tree) → Told (random_fault args) (random_of args)
+one-number [] = refl
+one-number (number count ∷ []) = refl
+one-number (bytes b ∷ []) = refl
+one-number (list ts ∷ []) = refl
+one-number (named n v ∷ []) = refl
+one-number (number count ∷ u ∷ us) = refl
+one-number (bytes b ∷ u ∷ us) = refl
+one-number (list ts ∷ u ∷ us) = refl
+one-number (named n v ∷ u ∷ us) = refl
+
 -- by the method
 
 of-field : (method : Uid) (args : List Tree) → Told (field_fault method args) (field_ask_of method args)
@@ -182,7 +193,8 @@ of-field method args =
 of-opal : (method : Uid) (args : List Tree) → Told (opal_fault method args) (opal_ask_of method args)
 of-opal method args =
     choice (method.0 == next.0) _ _ _ _ (nexts (options (next_where_parameter ∷ next_count_parameter ∷ []) args))
-    (choice (method.0 == get_acl.0) _ _ _ _ (lines args) (of-field method args))
+    (choice (method.0 == get_acl.0) _ _ _ _ (lines args)
+    (choice (method.0 == random.0) _ _ _ _ (one-number args) (of-field method args)))
 
 of-others : (profile : Profile) (method : Uid) (args : List Tree) → Told (other_fault profile method args) (other_ask_of profile method args)
 of-others Base method args = refl

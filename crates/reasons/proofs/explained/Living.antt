@@ -4,7 +4,7 @@ use Rattle.std.specs.Prelude.{is_some, option_map, unwrap_or}
 use Rattle.sp_cells.specs.declared.names.Sp.{Sp}
 use Rattle.sp_cells.specs.declared.names.Sp.TheVariants.{Admin, Locking}
 use Rattle.sp_cells.specs.Flat.{sp_eq}
-use Rattle.sessions.specs.Deeds.{Begun, SessionDeed, Unchanged, Started, Tried, Changed, Began, Committed, Aborted, Ended, Activated, Reverted, Erased}
+use Rattle.sessions.specs.Deeds.{Begun, SessionDeed, Unchanged, Started, Tried, Changed, Began, Committed, Aborted, Ended, Activated, Reverted, Erased, Drew, HostTold, StackReset, StackTold}
 use Rattle.history.specs.Opening.{Origin}
 use Rattle.history.specs.Events.{Response, Deed, InSession, WasReset, Event, or_else, latest, count}
 use Rattle.history.specs.Readers.{restores, is_start, first_number, next_number, living, session_on}
@@ -74,6 +74,10 @@ by-item o past sp (Ended its) response can = ended (sp_eq its sp) (latest (livin
 by-item o past sp (Activated pin) response can = same (is_some (session_on past sp)) (next_number past)
 by-item o past sp (Reverted its erasure) response can = ended (restores its sp) (latest (living sp) past) (next_number past)
 by-item o past sp (Erased erasure) response can = same (is_some (session_on past sp)) (next_number past)
+by-item o past sp (Drew count) response can = same (is_some (session_on past sp)) (next_number past)
+by-item o past sp (HostTold com_id limits) response can = same (is_some (session_on past sp)) (next_number past)
+by-item o past sp (StackReset com_id ends) response can = ended (ends sp) (latest (living sp) past) (next_number past)
+by-item o past sp (StackTold com_id) response can = same (is_some (session_on past sp)) (next_number past)
 
 by-deed : (o : Origin) (past : List Event) (sp : Sp) (d : Deed) → ((deed : SessionDeed) (response : Response) → d ≡ InSession deed response → CanDo o past deed)
     → number_begun sp d ≡ begun_by past sp d

@@ -107,3 +107,7 @@ long_transfer = refl
 too_long : ruled_text Base rows (Some (Send 1 4096 1 true)) (Some rules.TooLong) ≡ codes "because a response carries at most 65480 bytes of tokens\n"
 unfolding digits
 too_long = refl
+
+too_long_for_host : ruled_text Opal rows (Some (Send 1 4096 1 true)) (Some rules.TooLong) ≡ codes "because a response carries what its host takes by Properties, at first 1992 and at most 65480 bytes of tokens\n"
+unfolding digits
+too_long_for_host = refl

@@ -8,4 +8,4 @@ use Rattle.tper.proofs.trusted.Tper.new.Goals as goal
 pub returns-clause-kept : goal.returns-clause-kept
 returns-clause-kept c = opening-kept _ c.args.tables c.new-mbr.result c.new.ensures
     (ap (λ (mbr : StoredSectors). mbr.sectors) c.new-mbr.ensures.exact ∙ c.sectors.ensures ∙ ap sectors_of c.table_sizes.ensures.value ∙ ap table_sectors c.config.ensures)
-    c.new-mbr.ensures.zero c.new-2.ensures.none c.new-2.ensures.next c.new-2.ensures.block c.new-3.ensures
+    c.new-mbr.ensures.zero c.new-2.ensures.none c.new-2.ensures.next c.new-2.ensures.beside c.new-3.ensures
