@@ -21,10 +21,10 @@ use Rattle.sessions.specs.Deeds.{StackTold}
 use Rattle.history.specs.Events.{Deed, Nothing, InSession, Silent, OfQueue, QueueFailed, QueueMended, Wrote, WasReset, BlockedSid, Chose, Event, did}
 use Rattle.history.specs.Facts.{Facts}
 use Rattle.history.specs.Decisions.{aborted, not_found, fails, holds, received, is_session_com_id, discovery_com_id, unreceived, asks_stack}
-use Rattle.history.specs.Tcg.{sent, stack_sent, command_read, unsent}
+use Rattle.history.specs.Tcg.{sent, stack_sent, command_read, unsent, unqueued}
 use Rattle.tper.specs.Tper.{Tper}
 use Rattle.drive.specs.Transfer.{by_op, queued_command, unqueued_command, verdict_held, is_on_drive, StandsOnDrive}
-use Rattle.drive.specs.State.{DriveState}
+use Rattle.drive.specs.State.{DriveState, kept_facts}
 use Rattle.drive.specs.declared.decision.Decision.{Decision}
 use Rattle.drive.specs.declared.decision.Decision.TheVariants.{Aborts, FailsQueue, Holds, Moves, Restarts, Blocks, AsksStack, Executes}
 use Rattle.drive.specs.declared.decision.Cause.{Cause}
@@ -131,6 +131,12 @@ decision_event f payload (Restarts command) = did (WasReset programmatic)
 decision_event f payload (Blocks command) = did (BlockedSid (block_asked payload))
 decision_event f payload (AsksStack command) = asked_of_stack f payload command
 decision_event f payload (Executes command) = executed f payload command
+
+-- What is decided on a command that is not queued is what it comes to, whatever else the past says.
+abbrev pub ComesTo : DriveState → Command → Decision → Type 0
+ComesTo d command decision =
+    (f : Facts) (payload : List ℕ)
+    → decision_event (kept_facts d f) payload decision ≡ unqueued (kept_facts d f) payload command
 
 -- What a decision rests on: the slot, the FIS, and that what is to be done can be done.
 
