@@ -133,8 +133,8 @@ decision_event f payload (AsksStack command) = asked_of_stack f payload command
 decision_event f payload (Executes command) = executed f payload command
 
 -- What is decided on a command that is not queued is what it comes to, whatever else the past says.
-abbrev pub IsUnqueued : DriveState → Command → Decision → Type 0
-IsUnqueued d command decision =
+abbrev pub DecidesUnqueued : DriveState → Command → Decision → Type 0
+DecidesUnqueued d command decision =
     (f : Facts) (payload : List ℕ)
     → decision_event (kept_facts d f) payload decision ≡ unqueued (kept_facts d f) payload command
 

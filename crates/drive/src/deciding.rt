@@ -113,7 +113,7 @@ impl Drive {
     ghost use Rattle.drive.specs.Decision.{untaken};
     ghost use Rattle.tper.specs.Tper.{response_at};
     ghost use Rattle.transactions.specs.Sights.{look_up, committed_sight};
-    ghost use Rattle.drive.specs.Decision.{IsUnqueued, decision_event, transfer_deed, is_for_stack, IsDue, IsTrustedCommand};
+    ghost use Rattle.drive.specs.Decision.{DecidesUnqueued, decision_event, transfer_deed, is_for_stack, IsDue, IsTrustedCommand};
     ghost use Rattle.drive.specs.State.{kept_facts};
     ghost use Rattle.drive.specs.Queue.{held_at};
     ghost use Rattle.drive.specs.Transfer.{queued_command, unqueued_command};
@@ -256,7 +256,7 @@ impl Drive {
         requires mended { self.now.queue.failure ≡ None }
         requires reads { command_read self.now.tper.store.config h.now ≡ Ok (command, None) }
         requires counted { IsCounted command }
-        ensures event { IsUnqueued self.now command result }
+        ensures event { DecidesUnqueued self.now command result }
         ensures due { IsDue self.now h.now result }
     {
         match command {
@@ -370,7 +370,7 @@ impl Drive {
         requires reads { command_read self.now.tper.store.config h.now ≡ Ok (command, None) }
         requires is { is_block_sid self.now.tper.store.config.profile command ≡ true }
         requires kept { resets (look_up (committed_sight self.now.tper.store)) command ≡ false }
-        ensures event { IsUnqueued self.now command result }
+        ensures event { DecidesUnqueued self.now command result }
         ensures due { IsDue self.now h.now result }
     {
         if self.keeps_sid() {
@@ -386,7 +386,7 @@ impl Drive {
         requires trusted { IsTrustedCommand command }
         requires kept { resets (look_up (committed_sight self.now.tper.store)) command ≡ false }
         requires other { is_block_sid self.now.tper.store.config.profile command ≡ false }
-        ensures event { IsUnqueued self.now command result }
+        ensures event { DecidesUnqueued self.now command result }
         ensures due { IsDue self.now h.now result }
     {
         if self.asks_stack(&command) {
@@ -425,7 +425,7 @@ impl Drive {
         requires kept { resets (look_up (committed_sight self.now.tper.store)) command ≡ false }
         requires other { is_block_sid self.now.tper.store.config.profile command ≡ false }
         requires apart { is_for_stack self.now.tper.store.config.profile command ≡ false }
-        ensures event { IsUnqueued self.now command result }
+        ensures event { DecidesUnqueued self.now command result }
         ensures due { IsDue self.now h.now result }
     {
         let is_taken = match command {
