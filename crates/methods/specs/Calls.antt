@@ -1,6 +1,6 @@
 -- What a call in a session does: it is judged by what the session sees and holds, and the judgement says what is done
 -- and answered. Attempts go by the rows in force.
-use Rattle.std.specs.Prelude.{◌≡◌, slice_index, false, List, map, Option, Some, None, if◌then◌else◌}
+use Rattle.std.specs.Prelude.{ℕ, ◌≡◌, slice_index, false, List, map, Option, Some, None, if◌then◌else◌}
 use Rattle.tcg_tokens.specs.Tree.{Tree, tree}
 use Rattle.tcg_tokens.specs.Message.{message}
 use Rattle.tcg_tokens.specs.declared.value.Call.{Call}

@@ -21,7 +21,7 @@ use Rattle.methods.specs.Listed.{listed}
 use Rattle.methods.specs.Grants.{wanted, why_denied}
 use Rattle.methods.specs.Settings.{setting}
 use Rattle.sessions.specs.Deeds.{Setting, cells_set}
-use Rattle.methods.specs.Judgement.{Standing, Judgement, Denies, Refuses, Gives, Makes, Attempts, Activates, Reverts, Erases, RevertsSp, denial, to_set, does, judged}
+use Rattle.methods.specs.Judgement.{Standing, Judgement, Denies, Refuses, Gives, Draws, Makes, Attempts, Activates, Reverts, Erases, RevertsSp, denial, to_set, does, judged}
 
 -- each of these columns has an ACE: one that names it, and whose expression is the postorder writing of a tree that is
 -- true of the authorities held
@@ -58,6 +58,7 @@ abbrev pub takes_effect : Judgement → Bool
 takes_effect (Denies why) = false
 takes_effect (Refuses status rule) = false
 takes_effect (Gives results) = true
+takes_effect (Draws count results) = true
 takes_effect (Makes setting) = true
 takes_effect (Attempts block authority pin) = true
 takes_effect Activates = true

@@ -1,7 +1,6 @@
 -- The random bytes that a drive gives (Core 2.01, section 5.6.4.1; the bytes are this drive's: they are no randomness, so that what a
 -- script prints is the same each time).
-use Rattle.std.specs.Prelude.{ℕ, ◌+◌, ◌*◌, ◌/◌, ◌%◌, ◌^◌, List}
-use Rattle.transactions.specs.Bytes.{bytes_from}
+use Rattle.std.specs.Prelude.{ℕ, zero, suc, ◌+◌, ◌*◌, ◌/◌, ◌%◌, ◌^◌, List, [], ◌∷◌, ◌++◌}
 
 -- at most so many in one call (Opal SSC 2.01, section 4.2.6)
 abbrev pub most_random_bytes : ℕ
@@ -17,4 +16,5 @@ random_byte seed place = (seed + (place + 1) * random_step) % 2 ^ 64 / 2 ^ 56
 
 -- so many, where others were given before
 abbrev pub random_bytes : (seed drawn count : ℕ) → List ℕ
-random_bytes seed drawn count = bytes_from (random_byte seed) drawn count
+random_bytes seed drawn zero = []
+random_bytes seed drawn (suc n) = random_bytes seed drawn n ++ random_byte seed (drawn + n) ∷ []

@@ -1,7 +1,6 @@
 //! The random bytes that a drive gives (TCG Core 2.01, section 5.6.4.1).
 
 ghost use Rattle.std.specs.Prelude.{◌≡◌, ◌≤◌, ◌<◌, ◌+◌, ◌^◌, ◌∷◌, [], Err, IfOk, IfErr, OnErr};
-ghost use Rattle.transactions.specs.Bytes.{bytes_from};
 ghost use Rattle.sessions.specs.Live.{session_room};
 ghost use Rattle.methods.specs.Random.{most_random_bytes, random_byte, random_bytes};
 ghost use Rattle.methods.specs.Judgement.{draws};
