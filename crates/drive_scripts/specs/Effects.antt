@@ -3,7 +3,7 @@ use Rattle.std.specs.Prelude.{◌≡◌, ℕ, ◌==◌, true, false, if◌then�
 use Rattle.std.specs.Int.{w16, w32, from_be_bytes}
 use Rattle.std.specs.Str.{bytes_eq}
 use Rattle.fis.specs.H2d.{h2d_at}
-use Rattle.trusted_cmds.specs.Commands.{fis_of}
+use Rattle.trusted_cmds.specs.Commands.{reset_protocol, fis_of}
 use Rattle.trusted_cmds.specs.declared.command.Command.{Command}
 use Rattle.trusted_cmds.specs.declared.command.Command.TheVariants.{ReadDma, Receive, Identify, ReadLog10}
 use Rattle.compacket.specs.Frames.{com_packet_size}
@@ -104,13 +104,20 @@ told_size sp_specific bytes =
 abbrev pub discovery_size : List ℕ → ℕ
 discovery_size bytes = 4 + from_be_bytes w32 (slice_range bytes 0 4)
 
--- what a receive shows: by security protocol 00h the list of protocols or the certificates, on the
--- ComID of Level 0 discovery its bytes, else the header of the ComPacket and the bytes that it counts
+-- what is told of the stack of a ComID has its length in bytes 10 and 11, the high byte first (Core 2.01,
+-- section 3.3.4.7)
+abbrev pub stack_size : List ℕ → ℕ
+stack_size bytes = 12 + from_be_bytes w16 (slice_range bytes 10 12)
+
+-- what a receive shows: by security protocol 00h the list of protocols or the certificates, by 02h what
+-- is told of the stack of a ComID, on the ComID of Level 0 discovery its bytes, else the header of the
+-- ComPacket and the bytes that it counts
 abbrev pub shown_bytes : ℕ → ℕ → List ℕ → List ℕ
 shown_bytes protocol com_id bytes =
     if protocol == 0 then take (told_size com_id bytes) bytes
+    else (if protocol == reset_protocol then take (stack_size bytes) bytes
     else (if com_id == discovery_com_id then take (discovery_size bytes) bytes
-    else take (com_packet_size bytes) bytes)
+    else take (com_packet_size bytes) bytes))
 
 -- what a command that was served prints of its data
 abbrev pub served_text : Command → List ℕ → List ℕ

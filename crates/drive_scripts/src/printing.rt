@@ -3,7 +3,7 @@
 ghost use Rattle.std.specs.Prelude.{◌≡◌, ◌∷◌, [], OnOk, take};
 ghost use Rattle.compacket.specs.Frames.{com_packet_size};
 ghost use Rattle.script_lines.specs.Texts.{Prints, denial_lines, refusal_lines};
-ghost use Rattle.drive_scripts.specs.Effects.{protocol_list_size, certificate_data_size, told_size, discovery_size, shown_bytes, served_text, told_lines};
+ghost use Rattle.drive_scripts.specs.Effects.{protocol_list_size, certificate_data_size, told_size, stack_size, discovery_size, shown_bytes, served_text, told_lines};
 
 use audit::{AuditLine, Why};
 use byteorder::{BigEndian, ByteOrder};
@@ -12,7 +12,7 @@ use drive::Accepted;
 use reasons::rulings::DISCOVERY_COM_ID;
 use script_lines::Report;
 use std::alloc::AllocError;
-use trusted_cmds::Command;
+use trusted_cmds::{Command, RESET_PROTOCOL};
 
 /// How many bytes of Level 0 discovery say how many follow.
 const DISCOVERY_HEADER: usize = 4;
@@ -22,6 +22,9 @@ const PROTOCOL_LIST_HEADER: usize = 8;
 
 /// How many bytes stand in front of the certificates.
 const CERTIFICATE_DATA_HEADER: usize = 4;
+
+/// How many bytes stand in front of what is told of the stack of a ComID.
+const STACK_HEADER: usize = 12;
 
 /// The SP Specific field by which security protocol 00h tells the certificates.
 const CERTIFICATE_DATA: u16 = 1;
@@ -70,6 +73,17 @@ fn told(sp_specific: u16, bytes: &[u8]) -> &[u8]
     }
 }
 
+/// What is told of the stack of a ComID, as far as it is there.
+fn stack(bytes: &[u8]) -> &[u8]
+    ensures { result.now ≡ take (stack_size bytes.now) bytes.now }
+{
+    if bytes.len() < STACK_HEADER {
+        return bytes;
+    }
+    let size = STACK_HEADER + usize::from(BigEndian::read_u16(&bytes[10..]));
+    &bytes[..size.min(bytes.len())]
+}
+
 /// Level 0 discovery, as far as it is there.
 fn discovery(bytes: &[u8]) -> &[u8]
     ensures { result.now ≡ take (discovery_size bytes.now) bytes.now }
@@ -87,6 +101,8 @@ pub fn shown(protocol: u8, com_id: ComId, bytes: &[u8]) -> &[u8]
 {
     if protocol == 0 {
         told(com_id, bytes)
+    } else if protocol == RESET_PROTOCOL {
+        stack(bytes)
     } else if com_id == DISCOVERY_COM_ID {
         discovery(bytes)
     } else {
