@@ -16,18 +16,18 @@ unfolding admin_sps
 life_cycle_fits config = refl
 
 -- a configuration by its parts
-abbrev of_parts : Profile → (sectors mbr_sectors : ℕ) → (msid serial model psid : List ℕ) → ℕ → Config
-of_parts profile sectors mbr_sectors msid serial model psid datastore = record { sectors = sectors; mbr_sectors = mbr_sectors; msid = msid; profile = profile; serial = serial; model = model; psid = psid; datastore = datastore }
+abbrev of_parts : Profile → (sectors mbr_sectors : ℕ) → (msid serial model psid : List ℕ) → (datastore seed : ℕ) → Config
+of_parts profile sectors mbr_sectors msid serial model psid datastore seed = record { sectors = sectors; mbr_sectors = mbr_sectors; msid = msid; profile = profile; serial = serial; model = model; psid = psid; datastore = datastore; seed = seed }
 
-fits : (profile : Profile) (sectors mbr_sectors : ℕ) (msid serial model psid : List ℕ) (datastore : ℕ) → length msid ≤ 32
-    → set_fault (manufactured_contents (of_parts profile sectors mbr_sectors msid serial model psid datastore)) Locking (admin_pin_uid 1) (pin msid) ≡ None
+fits : (profile : Profile) (sectors mbr_sectors : ℕ) (msid serial model psid : List ℕ) (datastore seed : ℕ) → length msid ≤ 32
+    → set_fault (manufactured_contents (of_parts profile sectors mbr_sectors msid serial model psid datastore seed)) Locking (admin_pin_uid 1) (pin msid) ≡ None
 unfolding admin_sps admin_authorities label_authorities opal_authorities opal_pins opal_admin_aces admin_constants locking_authorities admin_pins label_pins locking_pins admin_aces label_aces removal_aces data_removals
-fits Base sectors mbr_sectors msid serial model psid datastore short = rw (le-leb (length msid) 32 short) refl
-fits Field sectors mbr_sectors msid serial model psid datastore short = rw (le-leb (length msid) 32 short) refl
-fits Opal sectors mbr_sectors msid serial model psid datastore short = rw (le-leb (length msid) 32 short) refl
+fits Base sectors mbr_sectors msid serial model psid datastore seed short = rw (le-leb (length msid) 32 short) refl
+fits Field sectors mbr_sectors msid serial model psid datastore seed short = rw (le-leb (length msid) 32 short) refl
+fits Opal sectors mbr_sectors msid serial model psid datastore seed short = rw (le-leb (length msid) 32 short) refl
 
 pub pin_fits : (config : Config) → length config.msid ≤ 32 → set_fault (manufactured_contents config) Locking (admin_pin_uid 1) (pin config.msid) ≡ None
-pin_fits config short = fits config.profile config.sectors config.mbr_sectors config.msid config.serial config.model config.psid config.datastore short
+pin_fits config short = fits config.profile config.sectors config.mbr_sectors config.msid config.serial config.model config.psid config.datastore config.seed short
 
 pub activation_law : ActivationLaw
 activation_law config limits = (life_cycle_fits config, pin_fits config limits.msid_short)
