@@ -87,6 +87,7 @@ typedef enum opal_code {
     OPAL_MODEL = 21,           /* a model number has at most 40 characters of printable ASCII, and only with the profile field or opal */
     OPAL_PSID = 22,            /* a PSID has at most 32 bytes, and only with the profile field or opal */
     OPAL_DATASTORE = 23,       /* a DataStore has at most 16,777,216 bytes, with the profile opal at least 10,485,760, and base has none */
+    OPAL_SEED = 29,            /* with the profile base or field a seed is 0 */
     OPAL_RANGE_TWICE = 24,     /* two rows are of one range */
     OPAL_VERSION_DIFFERS = 25, /* header and library are of versions that do not fit, or a configuration lacks its size */
 
@@ -193,16 +194,17 @@ typedef struct opal_config {
     size_t psid_length;
     uint8_t has_datastore;   /* whether (0 is not) the next field says the size of DataStore; else it has 4,096 bytes, with opal 10,485,760 */
     uint64_t datastore;      /* at most 16,777,216 bytes; 0 is a DataStore of no byte. With opal at least 10,485,760 */
+    uint64_t seed;           /* of the random bytes: any number; 0 unless the profile is opal */
 } opal_config;
 
 /* A drive of the profile base with 1,000 sectors, of which 8 can be shadowed, and the MSID "OPALMSID". */
 #define OPAL_CONFIG_INIT \
-    { sizeof(opal_config), 1000, 8, "OPALMSID", 8, NULL, 0, OPAL_BASE, NULL, 0, NULL, 0, NULL, 0, 0, 0 }
+    { sizeof(opal_config), 1000, 8, "OPALMSID", 8, NULL, 0, OPAL_BASE, NULL, 0, NULL, 0, NULL, 0, 0, 0, 0 }
 
-/* A drive of the profile opal with 524,288 sectors, of which 262,144 can be shadowed, a DataStore of 10,485,760 bytes, and the
-   MSID "OPALMSID". What nothing has written takes no memory. */
+/* A drive of the profile opal with 524,288 sectors, of which 262,144 can be shadowed, a DataStore of 10,485,760 bytes, the
+   MSID "OPALMSID", and the seed 0. What nothing has written takes no memory. */
 #define OPAL_CONFIG_INIT_OPAL \
-    { sizeof(opal_config), 524288, 262144, "OPALMSID", 8, NULL, 0, OPAL_OPAL, NULL, 0, NULL, 0, NULL, 0, 0, 0 }
+    { sizeof(opal_config), 524288, 262144, "OPALMSID", 8, NULL, 0, OPAL_OPAL, NULL, 0, NULL, 0, NULL, 0, 0, 0, 0 }
 
 /* What a handle has, where code is OPAL_DONE. */
 typedef struct opal_about {
@@ -398,6 +400,7 @@ typedef struct opal_raw_size {
     uint64_t sectors;
     uint64_t shadow;
     uint64_t datastore; /* UINT64_MAX stands for the size that a drive has where none is asked for */
+    uint64_t seed;
     uint32_t profile;
 } opal_raw_size;
 
@@ -575,7 +578,7 @@ static inline opal_code opal_raw_new(opal_raw_make *make, opal_handle *handle, c
         fault = opal_raw_asked(config);
     if (fault != OPAL_DONE)
         return fault;
-    opal_raw_size size = { config->sectors, config->shadow, UINT64_MAX, config->profile };
+    opal_raw_size size = { config->sectors, config->shadow, UINT64_MAX, config->seed, config->profile };
     if (config->has_datastore != 0) /* the largest number stands for none that is asked for, and no drive has the one below it */
         size.datastore = config->datastore == UINT64_MAX ? UINT64_MAX - 1 : config->datastore;
     opal_raw_call call = { { 0, NULL }, OPAL_NONE };
@@ -616,8 +619,8 @@ OPAL_MUST_USE static inline opal_count opal_version_text(char *into, size_t leng
 
 /* Makes the drive that is asked for, at a handle with nothing. Refused: OPAL_NULL, OPAL_MISALIGNED, OPAL_LENGTH,
    OPAL_VERSION_DIFFERS, OPAL_IN_USE; of a setting that no drive has OPAL_RANGE_TWICE, OPAL_PROFILE, OPAL_SECTORS, OPAL_SHADOW,
-   OPAL_MSID, OPAL_SERIAL, OPAL_MODEL, OPAL_PSID, OPAL_DATASTORE; of the first row that does not fit OPAL_NO_RANGE, OPAL_OVERLAP,
-   OPAL_BEYOND; OPAL_OUT_OF_MEMORY. */
+   OPAL_MSID, OPAL_SERIAL, OPAL_MODEL, OPAL_PSID, OPAL_DATASTORE, OPAL_SEED; of the first row that does not fit OPAL_NO_RANGE,
+   OPAL_OVERLAP, OPAL_BEYOND; OPAL_OUT_OF_MEMORY. */
 OPAL_MUST_USE static inline opal_code opal_drive_new(opal_handle *drive, const opal_config *config)
 {
     return opal_raw_new(opal_raw_drive_new, drive, config);
@@ -1213,6 +1216,7 @@ static inline const char *opal_error_text(uint32_t code)
     case OPAL_MODEL: return "a model number has at most 40 characters of printable ASCII, and only with the profile field or opal";
     case OPAL_PSID: return "a PSID has at most 32 bytes, and only with the profile field or opal";
     case OPAL_DATASTORE: return "a DataStore has at most 16,777,216 bytes, with the profile opal at least 10,485,760, and base has none";
+    case OPAL_SEED: return "with the profile base or field a seed is 0";
     case OPAL_RANGE_TWICE: return "two rows are of one range";
     case OPAL_VERSION_DIFFERS:
         return "header and library are of versions that do not fit, or a configuration lacks its size";

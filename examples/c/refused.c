@@ -73,6 +73,9 @@ static void settings(void)
     config.datastore = UINT64_MAX;
     must(opal_drive_new(&drive, &config) == OPAL_DATASTORE, "the largest number is a DataStore");
     config.datastore = 0;
+    config.seed = 1;
+    ask("a seed of the profile field", &config);
+    config.seed = 0;
     must(opal_drive_new(&drive, &config) == OPAL_DONE && opal_free(&drive) == OPAL_DONE, "the largest names do not fit");
 }
 
@@ -90,7 +93,8 @@ static void opal_sizes(void)
     config.datastore = 10485759;
     ask("an opal drive with a DataStore of 10,485,759 bytes", &config);
     config.datastore = 16777216;
-    must(opal_drive_new(&drive, &config) == OPAL_DONE && opal_free(&drive) == OPAL_DONE, "the largest DataStore does not fit");
+    config.seed = UINT64_MAX;
+    must(opal_drive_new(&drive, &config) == OPAL_DONE && opal_free(&drive) == OPAL_DONE, "the largest numbers do not fit");
 }
 
 static void rows(void)

@@ -308,7 +308,7 @@ def options_of(words):
         return None
     for name, value in zip(words[::2], words[1::2]):
         if name not in ("--sectors", "--shadow", "--msid", "--profile", "--serial", "--model", "--psid",
-                        "--datastore") or name in found:
+                        "--datastore", "--seed") or name in found:
             return None
         found[name] = value
     return found
@@ -318,13 +318,15 @@ def drive_options(words):
     found = options_of(words)
     if found is None:
         return None
-    numbers = {it[2:]: found[it] for it in ("--sectors", "--shadow", "--datastore") if it in found}
+    numbers = {it[2:]: found[it] for it in ("--sectors", "--shadow", "--datastore", "--seed") if it in found}
     texts = {it[2:]: found[it] for it in ("--msid", "--psid") if it in found}
     if any(not re.fullmatch("[0-9]+", it, re.A) or int(it) >= 2**64 for it in numbers.values()):
         return None
     if any(not re.fullmatch("([0-9a-fA-F]{2})*", it) for it in texts.values()):
         return None
     if found.get("--profile", "base") not in ("base", "field", "opal"):
+        return None
+    if "--seed" in found and found.get("--profile") != "opal":
         return None
     return {**{name: int(it) for name, it in numbers.items()}, **{name: bytes.fromhex(it) for name, it in texts.items()},
             **{it[2:]: found[it] for it in ("--serial", "--model") if it in found},

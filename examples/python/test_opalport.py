@@ -23,6 +23,8 @@ LIFTED = ("lifted by: Set of Locking_Range1 ReadLocked = 0 by Admins (ACE_Lockin
           "(ACE_Locking_Range1_Set_RdLocked)")
 # StartSession on the Locking SP without an authority.
 START_AS_ANYBODY = bytes.fromhex("f8a800000000000000ffa8000000000000ff02f007a8000002050000000201f1f9f0000000f1")
+# Random of ThisSP, of 8 bytes.
+RANDOM = bytes.fromhex("f8a80000000000000001a80000000600000601f008f1f9f0000000f1")
 
 
 def read(lba, count=1):
@@ -152,7 +154,8 @@ class OnADrive(unittest.TestCase):
                               (Code.PSID, {"psid": b"1"}), (Code.PSID, {"profile": "field", "psid": bytes(33)}),
                               (Code.DATASTORE, {"datastore": 1}),
                               (Code.SHADOW, {"profile": "opal", "shadow": 262_143}), (Code.DATASTORE, {"profile": "opal", "datastore": 10_485_759}),
-                              (Code.DATASTORE, {"profile": "field", "datastore": 2**64 - 1})):
+                              (Code.DATASTORE, {"profile": "field", "datastore": 2**64 - 1}),
+                              (Code.SEED, {"seed": 1}), (Code.SEED, {"profile": "field", "seed": 2**64 - 1})):
             with self.assertRaises(OpalError) as it:
                 make(**options)
             self.assertEqual(it.exception.code, code)
@@ -161,6 +164,12 @@ class OnADrive(unittest.TestCase):
             with self.assertRaises(OpalError) as it:
                 make(ranges=ranges)
             self.assertEqual(it.exception.code, code)
+
+    def test_random_bytes_come_of_the_seed(self):
+        for seed, told in ((0, "9e3cda7817b553f1"), (1 << 56, "9f3ddb7918b654f2")):
+            with Drive(profile="opal", seed=seed, ranges=[LOCKED]) as self.drive:
+                self.call(0, 0, START_AS_ANYBODY)
+                self.assertEqual(self.call(0x1000, 7, RANDOM), f"reply [x{told}] 0 0 0")
 
     def test_what_a_drive_is_made_with(self):
         self.assertEqual((self.drive.sectors, self.drive.shadow, self.drive.profile), (1000, 8, "base"))

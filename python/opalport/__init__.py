@@ -71,6 +71,7 @@ class Code(enum.IntEnum):
     SHARED = 26
     MISALIGNED = 27
     BUSY = 28
+    SEED = 29
     PORT_SLOT_BUSY = 101
     PORT_NOT_PREPARED = 102
     PORT_QUEUE = 103
@@ -107,6 +108,7 @@ _WORDS = {
     Code.MODEL: "model: at most 40 characters of printable ASCII, and with the profile field or opal alone",
     Code.PSID: "psid: at most 32 bytes, and with the profile field or opal alone",
     Code.DATASTORE: "datastore: at most 16,777,216 bytes, with the profile opal at least 10,485,760, and base has none",
+    Code.SEED: "seed: with the profile base or field it is 0",
     Code.RANGE_TWICE: "ranges: two rows are of one range; give one row for each",
     Code.VERSION_DIFFERS: "the module and the library are of versions that do not fit; OPALPORT_LIBRARY names another library",
     Code.SHARED: "a buffer that is written has a byte in common with another one",
@@ -338,7 +340,7 @@ class _Handle(ctypes.Structure):
 
 class _Size(ctypes.Structure):
     _fields_ = [("sectors", ctypes.c_uint64), ("shadow", ctypes.c_uint64), ("datastore", ctypes.c_uint64),
-                ("profile", ctypes.c_uint32)]
+                ("seed", ctypes.c_uint64), ("profile", ctypes.c_uint32)]
 
 
 class _Range(ctypes.Structure):
@@ -582,7 +584,7 @@ class _Object:
 
     def __init__(self, *, sectors: Optional[int] = None, shadow: Optional[int] = None, msid: Bytes = MSID, ranges: Sequence[Range] = (),
                  profile: str = "base", serial: str = "", model: str = "", psid: Bytes = b"",
-                 datastore: Optional[int] = None) -> None:
+                 datastore: Optional[int] = None, seed: int = 0) -> None:
         self._handle, self._lock = _Handle(), threading.RLock()
         rows = (_Range * len(ranges))(*(_row(it) for it in ranges))
         store = ANY_SIZE if datastore is None else min(_within(datastore, ANY_SIZE), ANY_SIZE - 1)
@@ -590,7 +592,7 @@ class _Object:
             raise ValueError(f"{profile!r} is no profile: {', '.join(PROFILES)}")
         new = (524_288, 262_144) if profile == "opal" else (1000, 8)
         sizes = (_within(new[at] if it is None else it, 2**64 - 1) for at, it in enumerate((sectors, shadow)))
-        size = _Size(*sizes, store, PROFILES.index(profile))
+        size = _Size(*sizes, store, _within(seed, 2**64 - 1), PROFILES.index(profile))
         texts = _bytes(serial.encode("utf-8")), _bytes(model.encode("utf-8"))
         make = getattr(_LIBRARY, self._make)
         _check(make(self._handle, size, *_bytes(msid), *texts[0], *texts[1], *_bytes(psid), rows, len(ranges)))

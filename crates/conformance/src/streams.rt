@@ -93,6 +93,7 @@ fn options(alloc: Global, sectors: &str) -> Result<Options, Fail> {
         model: None,
         psid: None,
         datastore: None,
+        seed: None,
     };
     Ok(Options::parse(alloc, &texts)?)
 }

@@ -2,7 +2,7 @@
 use Rattle.device_data.specs.Protocols.{protocol_list, certificate_data}
 use Rattle.trusted_cmds.specs.declared.command.CommandError.{CommandError}
 use Rattle.sp_cells.specs.Config.{Config}
-use Rattle.std.proofs.Common.{◌≡◌, ℕ, ◌<◌, ◌==◌, ◌*◌, Bool, true, false, List, [], ◌∷◌, ◌++◌, reverse, length, slice_index, Option, Some, None, Result, Ok, Err, is_some, refl, sym, subst, ap, ◌∙◌, if◌then◌else◌, arith}
+use Rattle.std.proofs.Common.{◌≡◌, ℕ, ◌<◌, ◌==◌, ◌*◌, ◌&&◌, nat_lt, Bool, true, false, List, [], ◌∷◌, ◌++◌, reverse, length, slice_index, Option, Some, None, Result, Ok, Err, is_some, refl, sym, subst, ap, ◌∙◌, if◌then◌else◌, arith}
 use Rattle.std.specs.Prelude.{Result, nat_le, unwrap_or}
 use Rattle.tcg_tokens.specs.declared.error.TokenError.{TokenError}
 use Rattle.tcg_tokens.specs.Message.{Message}
@@ -16,7 +16,9 @@ use Rattle.locking.specs.declared.ranges.Verdict.TheVariants.{Serve, Shadow}
 use Rattle.compacket.specs.Frames.{Frame, reading as frame_in}
 use Rattle.compacket.specs.declared.error.FrameError.{FrameError}
 use Rattle.compacket.specs.declared.session.Session.{Session}
+use Rattle.compacket.specs.declared.session.Named.{Named}
 use Rattle.device_data.specs.Discovery.{discovery_of}
+use Rattle.device_data.specs.StackReset.{is_stack_reset, stack_answer}
 use Rattle.device_data.specs.ErrorLog.{sized}
 use Rattle.device_data.specs.declared.log_page.Failure.{Failure}
 use Rattle.locking.specs.declared.range.Op.{Op}
@@ -27,22 +29,24 @@ use Rattle.shadow_mbr.specs.Stored.{StoredSectors, sector_size, sector_at, zeros
 use Rattle.transactions.specs.Sights.{look_up, committed_sight}
 use Rattle.trusted_cmds.specs.declared.command.Command.{Command}
 use Rattle.trusted_cmds.specs.declared.command.Command.TheVariants.{ReadQueued, WriteQueued, ReadDma, WriteDma, Send, Receive, Identify, ReadLog10, Flush, SetFeatures, ReadLog}
-use Rattle.trusted_cmds.specs.Commands.{is_programmatic_reset, is_protocol_list, is_certificate_data}
+use Rattle.trusted_cmds.specs.Commands.{is_programmatic_reset, is_protocol_list, is_certificate_data, reset_protocol}
 use Rattle.trusted_cmds.specs.BlockSid.{is_block_sid, block_asked}
 use Rattle.trusted_cmds.specs.declared.block.SidBlock.{SidBlock}
 use Rattle.basics.specs.declared.profile.Profile.{Profile}
+use Rattle.basics.specs.Profiles.{has_opal}
 use Rattle.basics.specs.declared.profile.Profile.TheVariants.{Base, Field, Opal}
 use Rattle.sp_cells.specs.Resets.{programmatic}
 use Rattle.history.specs.Opening.{Origin}
 use Rattle.sessions.specs.Deeds.{Begun}
+use Rattle.sessions.specs.Beside.{channel_of}
 use Rattle.history.specs.Events.{Deed, Nothing, OfQueue, QueueMended, Took, WasReset, BlockedSid, Event, did, ignores}
 use Rattle.history.specs.Readers.{waiting, writing}
 use Rattle.history.specs.Facts.{Facts, facts, session_named}
-use Rattle.history.specs.Decisions.{received, aborted, asks_certificates}
-use Rattle.history.specs.Tcg.{command_read, sent, framed, to_session, to_manager, in_session, item_in, breaks_off, broken_off, is_discarded, manager_event, answers, is_manager, accepted, commanded, data_read, data_of, receive_data, certificates_or, received_bytes}
+use Rattle.history.specs.Decisions.{received, aborted, asks_certificates, asks_stack, is_session_com_id}
+use Rattle.history.specs.Tcg.{command_read, sent, sent_by, broken_of, unframed, unframed_in, stack_reset, stack_kept, stack_or, framed, to_session, to_manager, in_session, item_in, breaks_off, broken_off, is_discarded, manager_event, answers, is_manager, accepted, commanded, data_read, data_of, receive_data, certificates_or, received_bytes}
 use Rattle.history.specs.Answers.{errored, ready, answer_fis, read_by, is_holding, served_fises}
 use Rattle.history.specs.History.{Act, log}
-use Rattle.tper.specs.Tper.{Keeps as KeepsTper, IsToldOfSend, response_at}
+use Rattle.tper.specs.Tper.{Keeps as KeepsTper, IsToldOfSend, response_at, told_event}
 use Rattle.tper.specs.declared.trusted.Sent.{Sent}
 use Rattle.drive.specs.declared.answer.Accepted.{Accepted}
 use Rattle.drive.specs.declared.decision.Cause.{Cause}
@@ -52,7 +56,7 @@ use Rattle.drive.specs.declared.decision.Decision.TheVariants.{Aborts, FailsQueu
 use Rattle.drive.specs.declared.transfer.Held.{Held}
 use Rattle.drive.specs.Transfer.{transfer_by, queued_command, unqueued_command, held_bytes, sector_then}
 use Rattle.drive.specs.Queue.{with_slot, failed_queue}
-use Rattle.drive.specs.Decision.{ranges_of, transfer_deed, executed, reason, ruling, decision_event, CanExecute, IsMoved}
+use Rattle.drive.specs.Decision.{ranges_of, transfer_deed, executed, is_for_stack, asked_of_stack, reason, ruling, decision_event, CanExecute, IsMoved}
 use Rattle.std.proofs.lemmas.Bool.Decides.{nat_tests}
 use Rattle.std.proofs.lemmas.List.{reverse-append}
 use Rattle.drive.specs.State.{DriveState, kept_facts, KeepsDrive, Agrees, AgreesInOrder}
@@ -60,20 +64,33 @@ use Rattle.drive.specs.Answers.{fises_in, IsAnswer, IsDoneAndAnswered}
 use Rattle.shadow_mbr.specs.declared.erasure.Erasure.{Erasure}
 use Rattle.shadow_mbr.specs.Erasure.{is_erased}
 use Rattle.drive.proofs.Keeping.{seen-is, nothing-keeps, failed-keeps, holds-keeps, moved-keeps, tper-keeps, sends-of-tper, sends-erase, sent-deed, IsOfTper, of_tper}
-use Rattle.audit.specs.declared.rules.rule.Rule.TheVariants.{NoCommand, NoFrame, Discarded}
+use Rattle.audit.specs.declared.rules.rule.Rule.TheVariants.{NoCommand, NoFrame, Discarded, BrokenOff}
 use Rattle.audit.specs.declared.rules.rule.Rule.{Rule}
 
 -- what is sent and received
 
-pub send-keeps : (d e : DriveState) (o : Origin) (acts : List Act) (com_id : ℕ) (r : Result Frame FrameError) (s : Sent)
-    → KeepsTper e.tper o (sent (facts o (log o acts)) com_id r ∷ log o acts) → IsToldOfSend (sent (facts o (log o acts)) com_id r) s
+pub send-keeps : (d e : DriveState) (o : Origin) (acts : List Act) (com_id : ℕ) (payload : List ℕ) (s : Sent)
+    → KeepsTper e.tper o (sent (facts o (log o acts)) com_id payload ∷ log o acts) → IsToldOfSend (sent (facts o (log o acts)) com_id payload) s
     → e.queue ≡ d.queue → e.settings ≡ d.settings → ((x : ℕ) → sector_at e.media x ≡ (if is_erased s.erases x then zeros else sector_at d.media x))
-    → KeepsDrive d o (log o acts) → KeepsDrive e o (sent (facts o (log o acts)) com_id r ∷ log o acts)
-send-keeps d e o acts com_id r s tper is queue chosen media k =
+    → KeepsDrive d o (log o acts) → KeepsDrive e o (sent (facts o (log o acts)) com_id payload ∷ log o acts)
+send-keeps d e o acts com_id payload s tper is queue chosen media k =
     let f : Facts = facts o (log o acts) in
-    tper-keeps d e o (log o acts) (sent f com_id r) (sends-of-tper (sent f com_id r).deed (sent-deed f com_id r)) tper queue chosen
+    tper-keeps d e o (log o acts) (sent f com_id payload) (sends-of-tper (sent f com_id payload).deed (sent-deed f com_id payload)) tper queue chosen
     (λ x. media x ∙ ap (λ (w : Erasure). if is_erased w x then zeros else sector_at d.media x) is.erases
-    ∙ sends-erase (sent f com_id r).deed x (sector_at d.media x) (sent-deed f com_id r)) k
+    ∙ sends-erase (sent f com_id payload).deed x (sector_at d.media x) (sent-deed f com_id payload)) k
+
+-- the stack of a ComID: media stay
+pub stack-reset-keeps : (d e : DriveState) (o : Origin) (past : List Event) (com_id : ℕ) → KeepsTper e.tper o (stack_reset (facts o past) com_id ∷ past)
+    → e.queue ≡ d.queue → e.settings ≡ d.settings → e.media ≡ d.media → KeepsDrive d o past → KeepsDrive e o (stack_reset (facts o past) com_id ∷ past)
+stack-reset-keeps d e o past com_id tper queue chosen media k =
+    tper-keeps d e o past (stack_reset (facts o past) com_id) (of_tper (λ tag. refl) refl (λ s. refl)) tper queue chosen
+    (λ s. ap (λ (m : StoredSectors). sector_at m s) media) k
+
+pub stack-told-keeps : (d e : DriveState) (o : Origin) (past : List Event) (com_id : ℕ) (rule : Option Rule) → KeepsTper e.tper o (told_event com_id rule ∷ past)
+    → e.queue ≡ d.queue → e.settings ≡ d.settings → e.media ≡ d.media → KeepsDrive d o past → KeepsDrive e o (told_event com_id rule ∷ past)
+stack-told-keeps d e o past com_id rule tper queue chosen media k =
+    tper-keeps d e o past (told_event com_id rule) (of_tper (λ tag. refl) refl (λ s. refl)) tper queue chosen
+    (λ s. ap (λ (m : StoredSectors). sector_at m s) media) k
 
 -- a receive does nothing, or takes what waits
 took-of : (com_id : ℕ) (b : Bool) → IsOfTper (if b then did (Took com_id) else did Nothing).deed
@@ -134,7 +151,7 @@ pub protocols-data : (f : Facts) (protocol com_id blocks : ℕ) (dma : Bool)
     → is_protocol_list (Receive protocol com_id blocks dma) ≡ true
     → sized (sector_size * blocks) protocol_list ≡ data_of f (Receive protocol com_id blocks dma)
 protocols-data f protocol com_id blocks dma is =
-    sym (ap (λ (b : Bool). if b then sized (sector_size * blocks) protocol_list else certificates_or (asks_certificates f.config.profile (Receive protocol com_id blocks dma)) f com_id (sector_size * blocks)) is)
+    sym (ap (λ (b : Bool). if b then sized (sector_size * blocks) protocol_list else stack_or (asks_stack f.config.profile protocol com_id blocks) f (Receive protocol com_id blocks dma) com_id (sector_size * blocks)) is)
 
 -- nor on that of the certificates, which an Opal drive tells
 certificate-of : (p : Profile) (command : Command) → asks_certificates p command ≡ true → is_certificate_data command ≡ true
@@ -164,41 +181,76 @@ certificates-keeps d o past payload command p is k = by_command command (certifi
     by_command (ReadDma lba count) g = absurd (no-list g)
     by_command (WriteDma lba count) g = absurd (no-list g)
 
--- what is told where the list of protocols is not asked for
+-- what is told where the list of protocols is not asked for, nor the stack of a ComID
 other-data : (f : Facts) (protocol com_id blocks : ℕ) (dma certificates : Bool)
     → is_protocol_list (Receive protocol com_id blocks dma) ≡ false
+    → is_for_stack f.config.profile (Receive protocol com_id blocks dma) ≡ false
     → asks_certificates f.config.profile (Receive protocol com_id blocks dma) ≡ certificates
     → certificates_or certificates f com_id (sector_size * blocks) ≡ data_of f (Receive protocol com_id blocks dma)
-other-data f protocol com_id blocks dma certificates other is =
+other-data f protocol com_id blocks dma certificates other apart is =
     ap (λ (b : Bool). certificates_or b f com_id (sector_size * blocks)) (sym is)
-    ∙ sym (ap (λ (b : Bool). if b then sized (sector_size * blocks) protocol_list else certificates_or (asks_certificates f.config.profile (Receive protocol com_id blocks dma)) f com_id (sector_size * blocks)) other)
+    ∙ ap (λ (b : Bool). stack_or b f (Receive protocol com_id blocks dma) com_id (sector_size * blocks)) (sym apart)
+    ∙ sym (ap (λ (b : Bool). if b then sized (sector_size * blocks) protocol_list else stack_or (asks_stack f.config.profile protocol com_id blocks) f (Receive protocol com_id blocks dma) com_id (sector_size * blocks)) other)
 
 pub certificates-data : (d : DriveState) (o : Origin) (past : List Event) (protocol com_id blocks : ℕ) (dma : Bool)
     → is_protocol_list (Receive protocol com_id blocks dma) ≡ false
+    → is_for_stack d.tper.store.config.profile (Receive protocol com_id blocks dma) ≡ false
     → asks_certificates d.tper.store.config.profile (Receive protocol com_id blocks dma) ≡ true → KeepsDrive d o past
     → sized (sector_size * blocks) certificate_data ≡ data_of (facts o past) (Receive protocol com_id blocks dma)
-certificates-data d o past protocol com_id blocks dma other is k =
-    other-data (kept_facts d (facts o past)) protocol com_id blocks dma true other is
+certificates-data d o past protocol com_id blocks dma other apart is k =
+    other-data (kept_facts d (facts o past)) protocol com_id blocks dma true other apart is
     ∙ ap (λ (f : Facts). data_of f (Receive protocol com_id blocks dma)) (seen-is d o past k)
 
 pub received-data : (d : DriveState) (o : Origin) (past : List Event) (protocol com_id blocks : ℕ) (dma : Bool)
     → is_protocol_list (Receive protocol com_id blocks dma) ≡ false
+    → is_for_stack d.tper.store.config.profile (Receive protocol com_id blocks dma) ≡ false
     → asks_certificates d.tper.store.config.profile (Receive protocol com_id blocks dma) ≡ false → KeepsDrive d o past
     → receive_data (facts o past) com_id (sector_size * blocks) ≡ data_of (facts o past) (Receive protocol com_id blocks dma)
-received-data d o past protocol com_id blocks dma other is k =
+received-data d o past protocol com_id blocks dma other apart is k =
     ap (λ (f : Facts). receive_data f com_id (sector_size * blocks)) (sym (seen-is d o past k))
-    ∙ other-data (kept_facts d (facts o past)) protocol com_id blocks dma false other is
+    ∙ other-data (kept_facts d (facts o past)) protocol com_id blocks dma false other apart is
+    ∙ ap (λ (f : Facts). data_of f (Receive protocol com_id blocks dma)) (seen-is d o past k)
+
+-- what is for the stack of a ComID is on one of those of sessions
+stack-parts : (a b c d : Bool) → (a && (b && (c && d))) ≡ true → c ≡ true
+stack-parts true true true d is = refl
+stack-parts true true false d is = is
+stack-parts true false c d is = absurd (no-list is)
+stack-parts false b c d is = absurd (no-list is)
+
+pub stack-com_id : (p : Profile) (protocol com_id blocks : ℕ) → asks_stack p protocol com_id blocks ≡ true → is_session_com_id com_id ≡ true
+stack-com_id p protocol com_id blocks is = stack-parts (has_opal p) (protocol == reset_protocol) (is_session_com_id com_id) (nat_lt 0 blocks) is
+
+-- what is told of it
+stack-no-list : (p : Profile) (protocol com_id blocks : ℕ) (dma : Bool)
+    → asks_stack p protocol com_id blocks ≡ true → is_protocol_list (Receive protocol com_id blocks dma) ≡ false
+stack-no-list Base protocol com_id blocks dma is = absurd (no-list is)
+stack-no-list Field protocol com_id blocks dma is = absurd (no-list is)
+stack-no-list Opal protocol com_id blocks dma is = grind (arith, nat_tests)
+
+stack-data-in : (f : Facts) (protocol com_id blocks : ℕ) (dma : Bool)
+    → is_for_stack f.config.profile (Receive protocol com_id blocks dma) ≡ true
+    → sized (sector_size * blocks) (stack_answer com_id (channel_of f.beside com_id).was_reset) ≡ data_of f (Receive protocol com_id blocks dma)
+stack-data-in f protocol com_id blocks dma is =
+    ap (λ (b : Bool). stack_or b f (Receive protocol com_id blocks dma) com_id (sector_size * blocks)) (sym is)
+    ∙ sym (ap (λ (b : Bool). if b then sized (sector_size * blocks) protocol_list else stack_or (asks_stack f.config.profile protocol com_id blocks) f (Receive protocol com_id blocks dma) com_id (sector_size * blocks)) (stack-no-list f.config.profile protocol com_id blocks dma is))
+
+pub stack-data : (d : DriveState) (o : Origin) (past : List Event) (protocol com_id blocks : ℕ) (dma : Bool)
+    → is_for_stack d.tper.store.config.profile (Receive protocol com_id blocks dma) ≡ true → KeepsDrive d o past
+    → sized (sector_size * blocks) (stack_answer com_id (channel_of d.tper.live.beside com_id).was_reset) ≡ data_of (facts o past) (Receive protocol com_id blocks dma)
+stack-data d o past protocol com_id blocks dma is k =
+    stack-data-in (kept_facts d (facts o past)) protocol com_id blocks dma is
     ∙ ap (λ (f : Facts). data_of f (Receive protocol com_id blocks dma)) (seen-is d o past k)
 
 pub discovery-data : (d : DriveState) (o : Origin) (past : List Event) (com_id room : ℕ) → com_id ≡ 1 → KeepsDrive d o past
-    → sized room (discovery_of d.tper.store.config.profile (look_up (committed_sight d.tper.store)) d.tper.live.block) ≡ receive_data (facts o past) com_id room
+    → sized room (discovery_of d.tper.store.config.profile (look_up (committed_sight d.tper.store)) d.tper.live.beside.block) ≡ receive_data (facts o past) com_id room
 discovery-data d o past com_id room is k =
     ap (λ (n : ℕ). receive_data (kept_facts d (facts o past)) n room) (sym is) ∙ ap (λ (f : Facts). receive_data f com_id room) (seen-is d o past k)
 
 pub waiting-data : (d : DriveState) (o : Origin) (past : List Event) (com_id room : ℕ) → (com_id == 1) ≡ false → KeepsDrive d o past
     → sized room (received_bytes com_id room (response_at d.tper.waiting com_id)) ≡ receive_data (facts o past) com_id room
 waiting-data d o past com_id room other k =
-    sym (ap (λ (b : Bool). if b then sized room (discovery_of d.tper.store.config.profile (look_up (committed_sight d.tper.store)) d.tper.live.block) else sized room (received_bytes com_id room (response_at d.tper.waiting com_id))) other)
+    sym (ap (λ (b : Bool). if b then sized room (discovery_of d.tper.store.config.profile (look_up (committed_sight d.tper.store)) d.tper.live.beside.block) else sized room (received_bytes com_id room (response_at d.tper.waiting com_id))) other)
     ∙ ap (λ (f : Facts). receive_data f com_id room) (seen-is d o past k)
 
 -- events of commands that are executed
@@ -206,7 +258,7 @@ waiting-data d o past com_id room other k =
 abbrev pub Succeeds : Event → Type 0
 Succeeds ev = (ev.failed ≡ None) × (is_holding ev.deed ≡ false)
 
-broken-succeeds : (f : Facts) (com_id : ℕ) (named : Session) (session : Begun) (item : Result Message TokenError) (b : Bool) → Succeeds (if b then broken_off session.sp else answers com_id named (in_session f session item))
+broken-succeeds : (f : Facts) (com_id : ℕ) (named : Session) (session : Begun) (item : Result Message TokenError) (b : Bool) → Succeeds (if b then broken_off BrokenOff session.sp else answers com_id named (in_session f session item))
 broken-succeeds f com_id named session item true = (refl, refl)
 broken-succeeds f com_id named session item false = (refl, refl)
 
@@ -227,9 +279,41 @@ frame-succeeds : (f : Facts) (com_id : ℕ) (frame : Frame) (b : Bool) → Succe
 frame-succeeds f com_id frame true = framed-succeeds f com_id frame (is_manager frame.session)
 frame-succeeds f com_id frame false = (refl, refl)
 
-sent-succeeds : (f : Facts) (com_id : ℕ) (r : Result Frame FrameError) → Succeeds (sent f com_id r)
-sent-succeeds f com_id (Err e) = (refl, refl)
-sent-succeeds f com_id (Ok frame) = frame-succeeds f com_id frame (frame.com_id == com_id)
+unframed-in-succeeds : (session : Option Begun) → Succeeds (unframed_in session)
+unframed-in-succeeds None = (refl, refl)
+unframed-in-succeeds (Some session) = (refl, refl)
+
+named-succeeds : (f : Facts) (com_id : ℕ) (named : Named) (b : Bool) → Succeeds (if b then unframed_in (session_named f com_id named.session) else ignores NoFrame)
+named-succeeds f com_id named true = unframed-in-succeeds (session_named f com_id named.session)
+named-succeeds f com_id named false = (refl, refl)
+
+unframed-succeeds : (f : Facts) (com_id : ℕ) (broken : Option Named) → Succeeds (unframed f com_id broken)
+unframed-succeeds f com_id None = (refl, refl)
+unframed-succeeds f com_id (Some named) = named-succeeds f com_id named (named.com_id == com_id)
+
+sent-by-succeeds : (f : Facts) (com_id : ℕ) (broken : Option Named) (r : Result Frame FrameError) → Succeeds (sent_by f com_id broken r)
+sent-by-succeeds f com_id broken (Err e) = unframed-succeeds f com_id broken
+sent-by-succeeds f com_id broken (Ok frame) = frame-succeeds f com_id frame (frame.com_id == com_id)
+
+sent-succeeds : (f : Facts) (com_id : ℕ) (payload : List ℕ) → Succeeds (sent f com_id payload)
+sent-succeeds f com_id payload = sent-by-succeeds f com_id (broken_of f.config.profile payload) (frame_in payload)
+
+stack-succeeds : (f : Facts) (com_id : ℕ) (b : Bool) → Succeeds (if b then stack_reset f com_id else stack_kept com_id)
+stack-succeeds f com_id true = (refl, refl)
+stack-succeeds f com_id false = (refl, refl)
+
+asked-succeeds : (f : Facts) (payload : List ℕ) (command : Command) → Succeeds (asked_of_stack f payload command)
+asked-succeeds f payload (Send protocol com_id blocks dma) = stack-succeeds f com_id (is_stack_reset com_id payload)
+asked-succeeds f payload (Receive protocol com_id blocks dma) = (refl, refl)
+asked-succeeds f payload Identify = (refl, refl)
+asked-succeeds f payload (ReadLog10 dma) = (refl, refl)
+asked-succeeds f payload Flush = (refl, refl)
+asked-succeeds f payload (SetFeatures feature) = (refl, refl)
+asked-succeeds f payload (ReadLog page dma) = (refl, refl)
+asked-succeeds f payload (ReadQueued lba count) = (refl, refl)
+asked-succeeds f payload (WriteQueued lba count) = (refl, refl)
+asked-succeeds f payload (ReadDma lba count) = (refl, refl)
+asked-succeeds f payload (WriteDma lba count) = (refl, refl)
 
 took-succeeds : (com_id : ℕ) (b : Bool) → Succeeds (if b then did (Took com_id) else did Nothing)
 took-succeeds com_id true = (refl, refl)
@@ -244,7 +328,7 @@ log-succeeds true = (refl, refl)
 log-succeeds false = (refl, refl)
 
 executed-succeeds : (f : Facts) (payload : List ℕ) (command : Command) → CanExecute command → Succeeds (executed f payload command)
-executed-succeeds f payload (Send protocol com_id blocks dma) can = sent-succeeds f com_id (frame_in payload)
+executed-succeeds f payload (Send protocol com_id blocks dma) can = sent-succeeds f com_id payload
 executed-succeeds f payload (Receive protocol com_id blocks dma) can = received-succeeds com_id blocks (f.waiting com_id)
 executed-succeeds f payload Identify can = (refl, refl)
 executed-succeeds f payload (ReadLog10 dma) can = log-succeeds (is_some f.failure)
@@ -325,6 +409,12 @@ pub executes-done : (f : Facts) (h : RegH2d) (e : DriveState) (o : Origin) (past
 executes-done f h e o past payload command made a is due t k =
     subst (λ (x : Decision). IsDoneAndAnswered f h (decision_event f payload x) e o past a) (sym is)
     (k, served-answer f h (executed f payload command) a command (executed-succeeds f payload command due.1) due.0 t)
+
+pub asks-done : (f : Facts) (h : RegH2d) (e : DriveState) (o : Origin) (past : List Event) (payload : List ℕ) (command : Command) (a : Accepted)
+    → command_read f.config h ≡ Ok (command, None)
+    → IsTold a ready 0 false (served_fises command) (data_of f command) (asked_of_stack f payload command).denied (asked_of_stack f payload command).rule
+    → KeepsDrive e o (asked_of_stack f payload command ∷ past) → IsDoneAndAnswered f h (asked_of_stack f payload command) e o past a
+asks-done f h e o past payload command a reads t k = (k, served-answer f h (asked_of_stack f payload command) a command (asked-succeeds f payload command) reads t)
 
 -- a command that resets gives no data
 reset-no-data : (f : Facts) (command : Command) → is_programmatic_reset command ≡ true → [] ≡ data_of f command

@@ -14,14 +14,15 @@ use Rattle.trusted_cmds.specs.Commands.{is_queued}
 use Rattle.trusted_cmds.specs.BlockSid.{is_block_sid, block_asked, is_blocked}
 use Rattle.device_data.specs.Discovery.{has_owner}
 use Rattle.sp_cells.specs.Resets.{programmatic}
-use Rattle.history.specs.Events.{WasReset, BlockedSid, did}
+use Rattle.sessions.specs.Deeds.{StackTold}
+use Rattle.history.specs.Events.{InSession, Silent, WasReset, BlockedSid, did}
 use Rattle.history.specs.Facts.{Facts}
-use Rattle.history.specs.Decisions.{refuses, resets, while_failed, admitted, queued_transfer, unqueued_transfer, is_busy}
-use Rattle.history.specs.Tcg.{accepted, commanded, known, unqueued, command_read, blocks_sid, send_item, send}
+use Rattle.history.specs.Decisions.{refuses, resets, while_failed, admitted, queued_transfer, unqueued_transfer, receive_other, is_busy}
+use Rattle.history.specs.Tcg.{accepted, commanded, known, unqueued, command_read, blocks_sid, stack_sent, send_item, send_other, send}
 use Rattle.drive.specs.declared.transfer.Held.{Held}
 use Rattle.drive.specs.declared.transfer.Transfer.{Transfer}
 use Rattle.drive.specs.Transfer.{transfer_by, queued_command, held_command}
-use Rattle.drive.specs.Decision.{transfer_deed}
+use Rattle.drive.specs.Decision.{transfer_deed, is_for_stack, asked_of_stack}
 use Rattle.audit.specs.declared.rules.rule.Rule.TheVariants.{NoCommand, SidKept}
 
 -- what is in a slot is held
@@ -48,11 +49,11 @@ pub unqueued-write : (f : Facts) (payload : List ℕ) (lba count : ℕ) (c : Com
 unqueued-write f payload lba count c t is made = rw (is, made) refl
 
 -- the command that blocks SID
-pub block_made : (f : Facts) (payload : List ℕ) (c : Command) → is_block_sid f.config.profile c ≡ true → resets f.rows c ≡ false → false ≡ (has_owner f.rows || is_blocked f.block)
+pub block_made : (f : Facts) (payload : List ℕ) (c : Command) → is_block_sid f.config.profile c ≡ true → resets f.rows c ≡ false → false ≡ (has_owner f.rows || is_blocked f.beside.block)
     → did (BlockedSid (block_asked payload)) ≡ unqueued f payload c
 block_made f payload (Send protocol com_id blocks dma) is kept free =
     sym (ap (λ b. cond b (did (WasReset programmatic)) (send f protocol com_id blocks payload)) kept
-    ∙ ap (λ b. cond b (blocks_sid f payload) (send_item f protocol com_id blocks payload)) is
+    ∙ ap (λ b. cond b (blocks_sid f payload) (send_other f protocol com_id blocks payload)) is
     ∙ ap (λ b. cond b (refuses SidKept) (did (BlockedSid (block_asked payload)))) (sym free))
 block_made f payload (Receive protocol com_id blocks dma) is kept free = cc
 block_made f payload Identify is kept free = cc
@@ -65,11 +66,11 @@ block_made f payload (WriteQueued lba count) is kept free = cc
 block_made f payload (ReadDma lba count) is kept free = cc
 block_made f payload (WriteDma lba count) is kept free = cc
 
-pub block_refused : (f : Facts) (payload : List ℕ) (c : Command) → is_block_sid f.config.profile c ≡ true → resets f.rows c ≡ false → true ≡ (has_owner f.rows || is_blocked f.block)
+pub block_refused : (f : Facts) (payload : List ℕ) (c : Command) → is_block_sid f.config.profile c ≡ true → resets f.rows c ≡ false → true ≡ (has_owner f.rows || is_blocked f.beside.block)
     → refuses SidKept ≡ unqueued f payload c
 block_refused f payload (Send protocol com_id blocks dma) is kept free =
     sym (ap (λ b. cond b (did (WasReset programmatic)) (send f protocol com_id blocks payload)) kept
-    ∙ ap (λ b. cond b (blocks_sid f payload) (send_item f protocol com_id blocks payload)) is
+    ∙ ap (λ b. cond b (blocks_sid f payload) (send_other f protocol com_id blocks payload)) is
     ∙ ap (λ b. cond b (refuses SidKept) (did (BlockedSid (block_asked payload)))) (sym free))
 block_refused f payload (Receive protocol com_id blocks dma) is kept free = cc
 block_refused f payload Identify is kept free = cc
@@ -81,6 +82,25 @@ block_refused f payload (ReadQueued lba count) is kept free = cc
 block_refused f payload (WriteQueued lba count) is kept free = cc
 block_refused f payload (ReadDma lba count) is kept free = cc
 block_refused f payload (WriteDma lba count) is kept free = cc
+
+-- what is for the stack of a ComID
+pub stack_asked : (f : Facts) (payload : List ℕ) (c : Command) → is_for_stack f.config.profile c ≡ true → is_block_sid f.config.profile c ≡ false → resets f.rows c ≡ false
+    → asked_of_stack f payload c ≡ unqueued f payload c
+stack_asked f payload (Send protocol com_id blocks dma) is other kept =
+    sym (ap (λ b. cond b (did (WasReset programmatic)) (send f protocol com_id blocks payload)) kept
+    ∙ ap (λ b. cond b (blocks_sid f payload) (send_other f protocol com_id blocks payload)) other
+    ∙ ap (λ b. cond b (stack_sent f com_id payload) (send_item f protocol com_id blocks payload)) is)
+stack_asked f payload (Receive protocol com_id blocks dma) is other kept =
+    sym (ap (λ b. cond b (did (InSession (StackTold com_id) Silent)) (receive_other f protocol com_id blocks)) is)
+stack_asked f payload Identify is other kept = cc
+stack_asked f payload (ReadLog10 dma) is other kept = cc
+stack_asked f payload Flush is other kept = cc
+stack_asked f payload (SetFeatures feature) is other kept = cc
+stack_asked f payload (ReadLog page dma) is other kept = cc
+stack_asked f payload (ReadQueued lba count) is other kept = cc
+stack_asked f payload (WriteQueued lba count) is other kept = cc
+stack_asked f payload (ReadDma lba count) is other kept = cc
+stack_asked f payload (WriteDma lba count) is other kept = cc
 
 -- the order of the rules
 pub commanded-failed : (f : Facts) (h : RegH2d) (payload : List ℕ) → h.is_command ≡ true → is_some f.failure ≡ true → while_failed (command_read f.config h) ≡ commanded f h payload

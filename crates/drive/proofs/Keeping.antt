@@ -11,15 +11,16 @@ use Rattle.device_data.specs.Settings.{with_feature}
 use Rattle.trusted_cmds.specs.declared.feature.Feature.{Feature}
 use Rattle.shadow_mbr.specs.Stored.{sector_at, zeros}
 use Rattle.transactions.specs.Sights.{look_up, committed_sight}
-use Rattle.compacket.specs.Frames.{Frame}
+use Rattle.compacket.specs.Frames.{Frame, reading as frame_in}
 use Rattle.compacket.specs.declared.error.FrameError.{FrameError}
 use Rattle.compacket.specs.declared.session.Session.{Session}
+use Rattle.compacket.specs.declared.session.Named.{Named}
 use Rattle.locking.specs.declared.ranges.Verdict.{Verdict}
 use Rattle.tcg_tokens.specs.Reading.{reading as message_in}
 use Rattle.shadow_mbr.specs.Erasure.{is_erased}
 use Rattle.sessions.specs.Deeds.{Begun, erased_by}
 use Rattle.history.specs.Decisions.{completed}
-use Rattle.history.specs.Tcg.{sent, framed, to_session, to_manager, in_session, item_in, breaks_off, broken_off, is_discarded, manager_event, answers, is_manager}
+use Rattle.history.specs.Tcg.{sent, sent_by, broken_of, unframed, unframed_in, framed, to_session, to_manager, in_session, item_in, breaks_off, broken_off, is_discarded, manager_event, answers, is_manager}
 use Rattle.history.specs.Opening.{Origin}
 use Rattle.history.specs.Events.{HeldCommand, Held as HeldDeed, QueueFailed, QueueMended, QueueEnded, Deed, Nothing, OfQueue, Wrote, Took, BlockedSid, Chose, WasReset, InSession, Event, did, or_else, latest, ignores}
 use Rattle.history.specs.Readers.{holding, in_force, failing, failure, writing, settings_then}
@@ -37,19 +38,19 @@ use Rattle.drive.specs.State.{DriveState, kept_facts, KeepsDrive}
 use Rattle.drive.proofs.Slots.{no_slot, none_length, slot_set}
 use Rattle.tcg_tokens.specs.declared.error.TokenError.{TokenError}
 use Rattle.tcg_tokens.specs.Message.{Message}
-use Rattle.audit.specs.declared.rules.rule.Rule.TheVariants.{NoFrame, Discarded}
+use Rattle.audit.specs.declared.rules.rule.Rule.TheVariants.{NoFrame, Discarded, BrokenOff}
 
 -- what is kept shows the facts of the past
 pub seen-is : (d : DriveState) (o : Origin) (past : List Event) → KeepsDrive d o past → kept_facts d (facts o past) ≡ facts o past
 seen-is d o past k =
     ap (λ x. record (kept_facts d g) { config = x }) k.tper.store.config
-    ∙ ap (λ x. record g { rows = x; byte = slice_index d.tper.store.locking.bytes; held = held_at d.queue; failure = d.queue.failure; waiting = response_at d.tper.waiting; sector = sector_at d.media; block = d.tper.live.block; settings = d.settings }) reads.rows
-    ∙ ap (λ x. record g { byte = x; held = held_at d.queue; failure = d.queue.failure; waiting = response_at d.tper.waiting; sector = sector_at d.media; block = d.tper.live.block; settings = d.settings }) reads.bytes
-    ∙ ap (λ x. record g { held = x; failure = d.queue.failure; waiting = response_at d.tper.waiting; sector = sector_at d.media; block = d.tper.live.block; settings = d.settings }) (fun_ext k.held)
-    ∙ ap (λ x. record g { failure = x; waiting = response_at d.tper.waiting; sector = sector_at d.media; block = d.tper.live.block; settings = d.settings }) k.failure
-    ∙ ap (λ x. record g { waiting = x; sector = sector_at d.media; block = d.tper.live.block; settings = d.settings }) (fun_ext k.tper.waiting)
-    ∙ ap (λ x. record g { sector = x; block = d.tper.live.block; settings = d.settings }) (fun_ext k.sectors)
-    ∙ ap (λ x. record g { block = x; settings = d.settings }) k.tper.block
+    ∙ ap (λ x. record g { rows = x; byte = slice_index d.tper.store.locking.bytes; held = held_at d.queue; failure = d.queue.failure; waiting = response_at d.tper.waiting; sector = sector_at d.media; beside = d.tper.live.beside; settings = d.settings }) reads.rows
+    ∙ ap (λ x. record g { byte = x; held = held_at d.queue; failure = d.queue.failure; waiting = response_at d.tper.waiting; sector = sector_at d.media; beside = d.tper.live.beside; settings = d.settings }) reads.bytes
+    ∙ ap (λ x. record g { held = x; failure = d.queue.failure; waiting = response_at d.tper.waiting; sector = sector_at d.media; beside = d.tper.live.beside; settings = d.settings }) (fun_ext k.held)
+    ∙ ap (λ x. record g { failure = x; waiting = response_at d.tper.waiting; sector = sector_at d.media; beside = d.tper.live.beside; settings = d.settings }) k.failure
+    ∙ ap (λ x. record g { waiting = x; sector = sector_at d.media; beside = d.tper.live.beside; settings = d.settings }) (fun_ext k.tper.waiting)
+    ∙ ap (λ x. record g { sector = x; beside = d.tper.live.beside; settings = d.settings }) (fun_ext k.sectors)
+    ∙ ap (λ x. record g { beside = x; settings = d.settings }) k.tper.beside
     ∙ ap (λ x. record g { settings = x }) k.settings
   where
     g : Facts
@@ -235,7 +236,7 @@ sends-erase (BlockedSid block) s before h = absurd h
 sends-erase (Chose feature) s before h = absurd h
 sends-erase (WasReset kind) s before h = absurd h
 
-broken-deed : (f : Facts) (com_id : ℕ) (named : Session) (session : Begun) (item : Result Message TokenError) (b : Bool) → IsSendDeed (if b then broken_off session.sp else answers com_id named (in_session f session item)).deed
+broken-deed : (f : Facts) (com_id : ℕ) (named : Session) (session : Begun) (item : Result Message TokenError) (b : Bool) → IsSendDeed (if b then broken_off BrokenOff session.sp else answers com_id named (in_session f session item)).deed
 broken-deed f com_id named session item true = tt
 broken-deed f com_id named session item false = tt
 
@@ -256,9 +257,24 @@ frame-deed : (f : Facts) (com_id : ℕ) (frame : Frame) (b : Bool) → IsSendDee
 frame-deed f com_id frame true = framed-deed f com_id frame (is_manager frame.session)
 frame-deed f com_id frame false = tt
 
-pub sent-deed : (f : Facts) (com_id : ℕ) (r : Result Frame FrameError) → IsSendDeed (sent f com_id r).deed
-sent-deed f com_id (Err e) = tt
-sent-deed f com_id (Ok frame) = frame-deed f com_id frame (frame.com_id == com_id)
+unframed-in-deed : (session : Option Begun) → IsSendDeed (unframed_in session).deed
+unframed-in-deed None = tt
+unframed-in-deed (Some session) = tt
+
+named-deed : (f : Facts) (com_id : ℕ) (named : Named) (b : Bool) → IsSendDeed (if b then unframed_in (session_named f com_id named.session) else ignores NoFrame).deed
+named-deed f com_id named true = unframed-in-deed (session_named f com_id named.session)
+named-deed f com_id named false = tt
+
+unframed-deed : (f : Facts) (com_id : ℕ) (broken : Option Named) → IsSendDeed (unframed f com_id broken).deed
+unframed-deed f com_id None = tt
+unframed-deed f com_id (Some named) = named-deed f com_id named (named.com_id == com_id)
+
+sent-by-deed : (f : Facts) (com_id : ℕ) (broken : Option Named) (r : Result Frame FrameError) → IsSendDeed (sent_by f com_id broken r).deed
+sent-by-deed f com_id broken (Err e) = unframed-deed f com_id broken
+sent-by-deed f com_id broken (Ok frame) = frame-deed f com_id frame (frame.com_id == com_id)
+
+pub sent-deed : (f : Facts) (com_id : ℕ) (payload : List ℕ) → IsSendDeed (sent f com_id payload).deed
+sent-deed f com_id payload = sent-by-deed f com_id (broken_of f.config.profile payload) (frame_in payload)
 
 -- a feature is chosen
 pub chosen-keeps : (d e : DriveState) (o : Origin) (past : List Event) (feature : Feature) → e ≡ record d { settings = with_feature feature d.settings }

@@ -1,11 +1,11 @@
 -- What the drive decides on a command, before it does it. The order of the rules is the history's.
+use Rattle.basics.specs.declared.profile.Profile.{Profile}
 use Rattle.std.specs.Prelude.{◌≡◌, ◌<◌, ◌||◌, ◌==◌, ℕ, Bool, true, false, List, Option, Some, None, is_some, Result, Ok, Err, if◌then◌else◌}
 use Rattle.fis.specs.Tags.{slot_count}
 use Rattle.fis.specs.declared.h2d.RegH2d.{RegH2d}
 use Rattle.audit.specs.declared.reason.Why.{Why}
 use Rattle.audit.specs.declared.rules.rule.Rule.{Rule}
 use Rattle.audit.specs.declared.rules.rule.Rule.TheVariants.{BeyondDrive, Protocol}
-use Rattle.compacket.specs.Frames.{reading as frame_in}
 use Rattle.locking.specs.Range.{RangeRows}
 use Rattle.locking.specs.Ranges.{ranges_in}
 use Rattle.locking.specs.Verdict.{verdict_of, denial_why}
@@ -17,15 +17,16 @@ use Rattle.trusted_cmds.specs.declared.command.Command.TheVariants.{Send, Receiv
 use Rattle.trusted_cmds.specs.Commands.{is_programmatic_reset, is_protocol_list}
 use Rattle.trusted_cmds.specs.BlockSid.{is_block_sid, block_asked}
 use Rattle.sp_cells.specs.Resets.{programmatic}
-use Rattle.history.specs.Events.{Deed, Nothing, OfQueue, QueueFailed, QueueMended, Wrote, WasReset, BlockedSid, Chose, Event, did}
+use Rattle.sessions.specs.Deeds.{StackTold}
+use Rattle.history.specs.Events.{Deed, Nothing, InSession, Silent, OfQueue, QueueFailed, QueueMended, Wrote, WasReset, BlockedSid, Chose, Event, did}
 use Rattle.history.specs.Facts.{Facts}
-use Rattle.history.specs.Decisions.{aborted, not_found, fails, holds, received, is_session_com_id, discovery_com_id, unreceived}
-use Rattle.history.specs.Tcg.{sent, command_read, unsent}
+use Rattle.history.specs.Decisions.{aborted, not_found, fails, holds, received, is_session_com_id, discovery_com_id, unreceived, asks_stack}
+use Rattle.history.specs.Tcg.{sent, stack_sent, command_read, unsent, unqueued}
 use Rattle.tper.specs.Tper.{Tper}
 use Rattle.drive.specs.Transfer.{by_op, queued_command, unqueued_command, verdict_held, is_on_drive, StandsOnDrive}
-use Rattle.drive.specs.State.{DriveState}
+use Rattle.drive.specs.State.{DriveState, kept_facts}
 use Rattle.drive.specs.declared.decision.Decision.{Decision}
-use Rattle.drive.specs.declared.decision.Decision.TheVariants.{Aborts, FailsQueue, Holds, Moves, Restarts, Blocks, Executes}
+use Rattle.drive.specs.declared.decision.Decision.TheVariants.{Aborts, FailsQueue, Holds, Moves, Restarts, Blocks, AsksStack, Executes}
 use Rattle.drive.specs.declared.decision.Cause.{Cause}
 use Rattle.drive.specs.declared.decision.Cause.TheVariants as causes
 use Rattle.drive.specs.declared.decision.Refusal.{Refusal}
@@ -87,13 +88,26 @@ transfer_deed transfer payload = by_op transfer.op Nothing (Wrote transfer.lba p
 
 -- What the other commands do.
 abbrev pub executed : Facts → List ℕ → Command → Event
-executed f payload (Send protocol com_id blocks dma) = sent f com_id (frame_in payload)
+executed f payload (Send protocol com_id blocks dma) = sent f com_id payload
 executed f payload (Receive protocol com_id blocks dma) =
     received com_id blocks (f.waiting com_id)
 executed f payload (ReadLog10 dma) =
     did (if is_some f.failure then OfQueue QueueMended else Nothing)
 executed f payload (SetFeatures feature) = did (Chose feature)
 executed f payload _ = did Nothing
+
+-- What is for the stack of a ComID, and what that does.
+abbrev pub is_for_stack : Profile → Command → Bool
+is_for_stack profile (Send protocol com_id blocks dma) = asks_stack profile protocol com_id blocks
+is_for_stack profile (Receive protocol com_id blocks dma) =
+    asks_stack profile protocol com_id blocks
+is_for_stack profile _ = false
+
+abbrev pub asked_of_stack : Facts → List ℕ → Command → Event
+asked_of_stack f payload (Send protocol com_id blocks dma) = stack_sent f com_id payload
+asked_of_stack f payload (Receive protocol com_id blocks dma) =
+    did (InSession (StackTold com_id) Silent)
+asked_of_stack f payload _ = did Nothing
 
 -- Why a trusted command is not taken, where responses wait on these ComIDs.
 abbrev pub untaken : (ℕ → Bool) → Command → Rule
@@ -115,7 +129,14 @@ decision_event f payload (Holds tag held) = holds tag (queued_command held.trans
 decision_event f payload (Moves held) = did (transfer_deed held.transfer payload)
 decision_event f payload (Restarts command) = did (WasReset programmatic)
 decision_event f payload (Blocks command) = did (BlockedSid (block_asked payload))
+decision_event f payload (AsksStack command) = asked_of_stack f payload command
 decision_event f payload (Executes command) = executed f payload command
+
+-- What is decided on a command that is not queued is what it comes to, whatever else the past says.
+abbrev pub DecidesUnqueued : DriveState → Command → Decision → Type 0
+DecidesUnqueued d command decision =
+    (f : Facts) (payload : List ℕ)
+    → decision_event (kept_facts d f) payload decision ≡ unqueued (kept_facts d f) payload command
 
 -- What a decision rests on: the slot, the FIS, and that what is to be done can be done.
 
@@ -158,5 +179,10 @@ IsDue d h (Restarts command) =
 IsDue d h (Blocks command) =
     (command_read d.tper.store.config h ≡ Ok (command, None))
     × (is_block_sid d.tper.store.config.profile command ≡ true)
+IsDue d h (AsksStack command) =
+    (command_read d.tper.store.config h ≡ Ok (command, None))
+    × (is_for_stack d.tper.store.config.profile command ≡ true)
 IsDue d h (Executes command) =
-    (command_read d.tper.store.config h ≡ Ok (command, None)) × CanExecute command
+    (command_read d.tper.store.config h ≡ Ok (command, None))
+    × CanExecute command
+    × (is_for_stack d.tper.store.config.profile command ≡ false)

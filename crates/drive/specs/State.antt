@@ -30,7 +30,7 @@ kept_facts d f = record f {
   failure = d.queue.failure;
   waiting = response_at d.tper.waiting;
   sector = sector_at d.media;
-  block = d.tper.live.block;
+  beside = d.tper.live.beside;
   settings = d.settings;
 }
 

@@ -2,7 +2,7 @@
 
 ghost use Rattle.std.specs.Prelude.{◌≡◌, ◌<◌, ◌≤◌, ℕ, List, Some, None, Ok, is_some, IfSome, true};
 ghost use Rattle.history.specs.Facts.{Facts};
-ghost use Rattle.history.specs.Decisions.{aborted, while_failed, admitted, receive, is_trusted, queued_transfer, unqueued_transfer};
+ghost use Rattle.history.specs.Decisions.{aborted, while_failed, admitted, receive, is_trusted, asks_stack, queued_transfer, unqueued_transfer};
 ghost use Rattle.history.specs.Tcg.{commanded, known, unqueued, send, command_read};
 ghost use Rattle.trusted_cmds.specs.Commands.{IsCounted, most_sectors, read_queued, write_queued, is_queued};
 ghost use Rattle.device_data.specs.ErrorLog.{failure_by};
@@ -16,13 +16,14 @@ use crate::drive::Drive;
 use crate::transfer::{Held, Transfer};
 use audit::rules::Rule;
 use basics::Profile;
-use compacket::MAX_COM_PACKET;
+use compacket::{ComId, MAX_COM_PACKET};
 use device_data::Failure;
 use fis::{RegH2d, Tag};
 use locking::Op;
 use tper::is_session_com_id;
 use trusted_cmds::{
-    Command, SECTOR_SIZE, is_certificate_data, is_protocol_list, is_queued, of_fis, sectors, tag_of,
+    Command, RESET_PROTOCOL, SECTOR_SIZE, is_certificate_data, is_protocol_list, is_queued, of_fis,
+    sectors, tag_of,
 };
 
 /// The ComID of Level 0 discovery.
@@ -74,6 +75,14 @@ fn is_trusted(protocol: u8, blocks: u16) -> bool
     protocol == TCG_PROTOCOL && blocks > 0
 }
 
+/// What is sent to the stack of a ComID, or received of it, on a drive of `Opal`: security protocol 02h, with one block at
+/// least.
+fn asks_stack(profile: Profile, protocol: u8, com_id: ComId, blocks: u16) -> bool
+    ensures { result ≡ asks_stack profile protocol com_id blocks }
+{
+    profile.has_opal() && protocol == RESET_PROTOCOL && is_session_com_id(com_id) && blocks > 0
+}
+
 /// Aborted by a rule, and nothing changes.
 fn aborts(rule: Rule) -> Decision
     ensures { result ≡ Decision.Aborts aborted (Cause.Rule rule) }
@@ -104,7 +113,7 @@ impl Drive {
     ghost use Rattle.drive.specs.Decision.{untaken};
     ghost use Rattle.tper.specs.Tper.{response_at};
     ghost use Rattle.transactions.specs.Sights.{look_up, committed_sight};
-    ghost use Rattle.drive.specs.Decision.{decision_event, transfer_deed, IsDue, IsTrustedCommand};
+    ghost use Rattle.drive.specs.Decision.{DecidesUnqueued, decision_event, transfer_deed, is_for_stack, IsDue, IsTrustedCommand};
     ghost use Rattle.drive.specs.State.{kept_facts};
     ghost use Rattle.drive.specs.Queue.{held_at};
     ghost use Rattle.drive.specs.Transfer.{queued_command, unqueued_command};
@@ -247,9 +256,7 @@ impl Drive {
         requires mended { self.now.queue.failure ≡ None }
         requires reads { command_read self.now.tper.store.config h.now ≡ Ok (command, None) }
         requires counted { IsCounted command }
-        ensures event { (f : Facts) (payload : List ℕ) → decision_event
-            (kept_facts self.now f) payload result
-            ≡ unqueued (kept_facts self.now f) payload command }
+        ensures event { DecidesUnqueued self.now command result }
         ensures due { IsDue self.now h.now result }
     {
         match command {
@@ -363,9 +370,7 @@ impl Drive {
         requires reads { command_read self.now.tper.store.config h.now ≡ Ok (command, None) }
         requires is { is_block_sid self.now.tper.store.config.profile command ≡ true }
         requires kept { resets (look_up (committed_sight self.now.tper.store)) command ≡ false }
-        ensures event { (f : Facts) (payload : List ℕ) → decision_event
-            (kept_facts self.now f) payload result
-            ≡ unqueued (kept_facts self.now f) payload command }
+        ensures event { DecidesUnqueued self.now command result }
         ensures due { IsDue self.now h.now result }
     {
         if self.keeps_sid() {
@@ -374,16 +379,53 @@ impl Drive {
         Decision::Blocks(command)
     }
 
-    /// A trusted command: of security protocol 01h, with one block at least, on a ComID that takes it, or a receive of
-    /// what security protocol 00h tells. A send while a response waits there is aborted, and one that is too long.
+    /// Another trusted command: it is for the stack of a ComID, or an item is sent or received.
+    #[tactic(auto, using(crate::proofs::Commands::stack_asked))]
     fn trusted(&self, h: &RegH2d, command: Command) -> Decision
         requires reads { command_read self.now.tper.store.config h.now ≡ Ok (command, None) }
         requires trusted { IsTrustedCommand command }
         requires kept { resets (look_up (committed_sight self.now.tper.store)) command ≡ false }
         requires other { is_block_sid self.now.tper.store.config.profile command ≡ false }
-        ensures event { (f : Facts) (payload : List ℕ) → decision_event
-            (kept_facts self.now f) payload result
-            ≡ unqueued (kept_facts self.now f) payload command }
+        ensures event { DecidesUnqueued self.now command result }
+        ensures due { IsDue self.now h.now result }
+    {
+        if self.asks_stack(&command) {
+            return Decision::AsksStack(command);
+        }
+        self.trusted_item(h, command)
+    }
+
+    /// Whether a command is for the stack of a ComID, of a drive of `Opal`.
+    fn asks_stack(&self, command: &Command) -> bool
+        ensures { result ≡ is_for_stack self.now.tper.store.config.profile command.now }
+    {
+        match *command {
+            Command::Send {
+                protocol,
+                sp_specific,
+                blocks,
+                ..
+            } => asks_stack(self.profile(), protocol, sp_specific, blocks),
+            Command::Receive {
+                protocol,
+                sp_specific,
+                blocks,
+                ..
+            } => asks_stack(self.profile(), protocol, sp_specific, blocks),
+            _ => false,
+        }
+    }
+
+    /// An item that is sent or received: of security protocol 01h, with one block at least, on a ComID that takes it, or a
+    /// receive of what security protocol 00h tells. A send while a response waits there is aborted, and one that is too
+    /// long.
+    fn trusted_item(&self, h: &RegH2d, command: Command) -> Decision
+        requires reads { command_read self.now.tper.store.config h.now ≡ Ok (command, None) }
+        requires trusted { IsTrustedCommand command }
+        requires kept { resets (look_up (committed_sight self.now.tper.store)) command ≡ false }
+        requires other { is_block_sid self.now.tper.store.config.profile command ≡ false }
+        requires apart { is_for_stack self.now.tper.store.config.profile command ≡ false }
+        ensures event { DecidesUnqueued self.now command result }
         ensures due { IsDue self.now h.now result }
     {
         let is_taken = match command {

@@ -44,6 +44,8 @@ pub enum Decision {
     Restarts(Command),
     /// The command blocks SID.
     Blocks(Command),
+    /// The command asks the stack of a ComID.
+    AsksStack(Command),
 }
 
 /// Why a transfer is refused.

@@ -47,7 +47,7 @@ pub struct Drive {
     pub(crate) alloc: Global,
     sectors: u64,
     profile: Profile,
-    ranges: Ranges,
+    pub(crate) ranges: Ranges,
     pub(crate) tper: Box<Tper>,
     pub(crate) queue: Box<Queue>,
     pub(crate) media: Box<Media>,
@@ -84,7 +84,6 @@ impl Drive {
     ghost use Rattle.fis.specs.H2d.{h2d_at};
     ghost use Rattle.fis.specs.Types.{h2d_type};
     ghost use Rattle.fis.specs.declared.h2d.RegH2d.{RegH2d};
-    ghost use Rattle.compacket.specs.Frames.{reading as frame_in};
     ghost use Rattle.shadow_mbr.specs.Stored.{sector_at, sector_size, heads};
     ghost use Rattle.device_data.specs.Discovery.{has_owner, discovery_of};
     ghost use Rattle.trusted_cmds.specs.BlockSid.{is_block_sid, is_blocked};
@@ -247,7 +246,7 @@ impl Drive {
     /// Whether that one is refused: SID has a PIN of its own, or is blocked.
     pub(crate) fn keeps_sid(&self) -> bool
         ensures { result ≡ (has_owner (look_up (committed_sight self.now.tper.store))
-            || is_blocked self.now.tper.live.block) }
+            || is_blocked self.now.tper.live.beside.block) }
     {
         self.tper.keeps_sid()
     }
@@ -371,12 +370,12 @@ impl Drive {
     pub(crate) fn send(&mut self, com_id: u16, payload: &[u8]) -> Result<Objection, AllocError>
         requires { is_session_com_id com_id ≡ true }
         ensures kept { OnOk result ((o : Origin) (acts : List Act) → Agrees self.old o acts
-            → KeepsDrive self.new o (sent (facts o (log o acts)) com_id (frame_in payload.now)
+            → KeepsDrive self.new o (sent (facts o (log o acts)) com_id payload.now
             ∷ log o acts)) }
         ensures denied { IfOk result (λ r. (o : Origin) (acts : List Act) → Agrees self.old o acts
-            → r.denied ≡ (sent (facts o (log o acts)) com_id (frame_in payload.now)).denied) }
+            → r.denied ≡ (sent (facts o (log o acts)) com_id payload.now).denied) }
         ensures rule { IfOk result (λ r. (o : Origin) (acts : List Act) → Agrees self.old o acts
-            → r.rule ≡ (sent (facts o (log o acts)) com_id (frame_in payload.now)).rule) }
+            → r.rule ≡ (sent (facts o (log o acts)) com_id payload.now).rule) }
         ensures err { OnErr result (self.new ≡ self.old) }
     {
         let sent = self.tper.send(com_id, payload, &mut self.spare)?;
@@ -414,7 +413,7 @@ impl Drive {
     pub(crate) fn discover(&self, room: usize) -> Result<Vec<u8>, AllocError>
         ensures { IfOk result (λ v. v.items
             ≡ sized room (discovery_of self.now.tper.store.config.profile
-            (look_up (committed_sight self.now.tper.store)) self.now.tper.live.block)) }
+            (look_up (committed_sight self.now.tper.store)) self.now.tper.live.beside.block)) }
     {
         match self.profile {
             Profile::Base => {

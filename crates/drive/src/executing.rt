@@ -16,7 +16,7 @@ use trusted_cmds::{Command, SidBlock, is_protocol_list};
 impl Drive {
     ghost use Rattle.trusted_cmds.specs.Profiles.{payload_length_in};
     ghost use Rattle.history.specs.Opening.{Origin};
-    ghost use Rattle.std.specs.Prelude.{◌==◌, ◌||◌, ◌*◌, ℕ, true, slice_index};
+    ghost use Rattle.std.specs.Prelude.{◌==◌, ◌||◌, ◌*◌, ℕ, true, false, slice_index};
     ghost use Rattle.fis.specs.H2d.{h2d_at};
     ghost use Rattle.fis.specs.Types.{h2d_type};
     ghost use Rattle.shadow_mbr.specs.Stored.{sector_size};
@@ -26,7 +26,7 @@ impl Drive {
     ghost use Rattle.history.specs.Readers.{waiting};
     ghost use Rattle.history.specs.Facts.{Facts, facts};
     ghost use Rattle.history.specs.History.{Act, Accept, log, event};
-    ghost use Rattle.drive.specs.Decision.{decision_event, executed, CanExecute, IsDue};
+    ghost use Rattle.drive.specs.Decision.{decision_event, executed, is_for_stack, CanExecute, IsDue};
     ghost use Rattle.drive.specs.State.{kept_facts, KeepsDrive, Agrees};
     ghost use Rattle.drive.specs.Answers.{IsDoneAndAnswered};
 
@@ -111,6 +111,7 @@ impl Drive {
                 answer.set_done(served_form(&command));
                 Ok(())
             }
+            Decision::AsksStack(command) => self.ask_stack(h, command, payload, answer),
         }
     }
 
@@ -121,7 +122,8 @@ impl Drive {
         command: &Command,
         payload: &[u8],
     ) -> Result<(Vec<u8>, Objection), AllocError>
-        requires { CanExecute command.now }
+        requires can { CanExecute command.now }
+        requires apart { is_for_stack self.old.tper.store.config.profile command.now ≡ false }
         ensures kept { OnOk result ((o : Origin) (acts : List Act) → Agrees self.old o acts
             → KeepsDrive self.new o (executed (facts o (log o acts)) payload.now command.now
             ∷ log o acts)) }

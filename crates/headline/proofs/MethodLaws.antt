@@ -13,7 +13,7 @@ use Rattle.trusted_cmds.specs.declared.command.Command.{Command}
 use Rattle.trusted_cmds.specs.declared.command.Command.TheVariants.{Send}
 use Rattle.trusted_cmds.specs.Commands.{fis_of, tag_with, is_queued as is_queued_code}
 use Rattle.tcg_calls.specs.Asks.{uid_of}
-use Rattle.tcg_calls.specs.Statuses.{fail, invalid_parameter, response_overflow, not_authorized}
+use Rattle.tcg_calls.specs.Statuses.{fail, invalid_parameter, response_overflow, not_authorized, success}
 use Rattle.tcg_calls.specs.declared.call_shapes.ask.Ask.{Ask}
 use Rattle.tcg_calls.specs.declared.call_shapes.ask.Ask.TheVariants.{GetCells, GetBytes, SetCells, SetBytes, Authenticate, Activate, Revert, GenKey, RevertSp, Next, GetAcl, Random, Other}
 use Rattle.sessions.specs.Starts.{is_in_use}
@@ -41,7 +41,7 @@ use Rattle.sp_cells.specs.declared.names.Sp.TheVariants.{Admin, Locking}
 use Rattle.sp_cells.specs.declared.names.Uid.{Uid}
 use Rattle.sp_cells.specs.ColumnNames.{pin_column}
 use Rattle.sp_tables.specs.RowNames.{rows_of_table}
-use Rattle.methods.specs.Tables.{rows_asked}
+use Rattle.methods.specs.Tables.{rows_asked, uids_tree}
 use Rattle.ace_eval.specs.Aces.{acl_at}
 use Rattle.sp_cells.specs.Names.{c_pin_sid, table_of}
 use Rattle.history.specs.Opening.{Origin}
@@ -61,9 +61,10 @@ use Rattle.port_history.proofs.Tests.{none_is, none_holds, tests_of}
 use Rattle.headline.specs.Steps.{facts_after, event_after}
 use Rattle.headline.proofs.AuditLaws.{lawful_before}
 use Rattle.headline.proofs.Rising.{listed_rises}
-use Rattle.headline.specs.Methods.{IsCallStep, IsGrantedAt, comes_to, EffectIs, refused_with, DoesSo, Lists, IsJudged, MethodLaw}
+use Rattle.headline.specs.Methods.{IsCallStep, IsGrantedAt, comes_to, EffectIs, refused_with, DoesSo, Lists, IsJudged, MethodLaw, TellsRows, TellsAcl}
 use Rattle.audit.specs.declared.rules.rule.Rule.TheVariants.{OutsideTable, TooLong, GlobalLocked, ManyRandomBytes}
 use Rattle.audit.specs.declared.rules.rule.Rule.{Rule}
+use Rattle.methods.specs.Said.{reply_of}
 
 -- a ComID of sessions has 16 bits
 com_id_fits : (com_id : ℕ) → is_session_com_id com_id ≡ true → com_id % 65536 ≡ com_id
@@ -183,6 +184,47 @@ gives_cells s object first last valid =
         → does_ask s object (if b then GetCells first last else Other)
         ≡ Gives (listing s object first last)
     by_kind true v = by_room _ _ v
+    by_kind false v = absurd (cc)
+
+-- what a Next and a GetACL tell
+gives_told : (b : Bool) (results : List Tree)
+    → takes_effect (if b then Gives results else Refuses response_overflow TooLong) ≡ true
+    → (if b then Gives results else Refuses response_overflow TooLong) ≡ Gives results
+gives_told true results v = refl
+gives_told false results v = absurd (cc)
+
+gives_rows : (s : Standing) (object : Uid) (after : Option Uid) (count : Option ℕ)
+    → takes_effect (does s object (Next after count)) ≡ true
+    → (rows : List Uid) × (rows_asked after count (rows_of_table s.sp (table_of object)) ≡ Some rows)
+    × (does s object (Next after count) ≡ Gives (uids_tree rows ∷ []))
+gives_rows s object after count valid = by_kind (has_ask (kind_of s.sp object) (Next after count)) valid
+  where
+    by_rows : (x : Option (List Uid)) → takes_effect (rows_told s.room x) ≡ true
+        → (rows : List Uid) × (x ≡ Some rows) × (rows_told s.room x ≡ Gives (uids_tree rows ∷ []))
+    by_rows None v = absurd (cc)
+    by_rows (Some rows) v = (rows, refl, gives_told _ _ v)
+
+    by_kind : (b : Bool) → takes_effect (does_ask s object (if b then Next after count else Other)) ≡ true
+        → (rows : List Uid) × (rows_asked after count (rows_of_table s.sp (table_of object)) ≡ Some rows)
+        × (does_ask s object (if b then Next after count else Other) ≡ Gives (uids_tree rows ∷ []))
+    by_kind true v = by_rows (rows_asked after count (rows_of_table s.sp (table_of object))) v
+    by_kind false v = absurd (cc)
+
+gives_acl : (s : Standing) (object about what : Uid)
+    → takes_effect (does s object (GetAcl about what)) ≡ true
+    → (acl : List Uid) × (acl_at s.profile s.sp about what ≡ Some acl)
+    × (does s object (GetAcl about what) ≡ Gives (uids_tree acl ∷ []))
+gives_acl s object about what valid = by_kind (has_ask (kind_of s.sp object) (GetAcl about what)) valid
+  where
+    by_acl : (x : Option (List Uid)) → takes_effect (acl_told s.room x) ≡ true
+        → (acl : List Uid) × (x ≡ Some acl) × (acl_told s.room x ≡ Gives (uids_tree acl ∷ []))
+    by_acl None v = absurd (cc)
+    by_acl (Some acl) v = (acl, refl, gives_told _ _ v)
+
+    by_kind : (b : Bool) → takes_effect (does_ask s object (if b then GetAcl about what else Other)) ≡ true
+        → (acl : List Uid) × (acl_at s.profile s.sp about what ≡ Some acl)
+        × (does_ask s object (if b then GetAcl about what else Other) ≡ Gives (uids_tree acl ∷ []))
+    by_kind true v = by_acl (acl_at s.profile s.sp about what) v
     by_kind false v = absurd (cc)
 
 -- what takes effect, method by method
@@ -318,6 +360,8 @@ judged_so_far o before step session object method args ask h c shaped = record {
       (has_ask (kind_of session.sp (uid_of object)) ask) valid;
   refused = λ bare. refused_by bare (judges.denied bare);
   listed = lists;
+  rows_told = tells_rows;
+  acl_told = tells_acl;
 }
   where
     f : Facts
@@ -378,6 +422,33 @@ judged_so_far o before step session object method args ask h c shaped = record {
       rises = listed_rises (standing f session).profile (standing f session).rows session.sp (uid_of object) first last
           (standing f session).held;
     }
+
+    told_as : (a : Ask) (results : List Tree) → ask ≡ a → takes_effect (comes_to o before session object ask) ≡ true
+        → IsGrantedAt o before session object method ask
+        → does (standing f session) (uid_of object) a ≡ Gives results
+        → event_after tcg o before step ≡ Some (answers c.com_id c.frame.session (says Unchanged (reply_of results success)))
+    told_as a results is valid granted gives =
+        here ∙ ap Some ((law valid).1 granted)
+        ∙ ap (λ (j : Judgement). Some (answers c.com_id c.frame.session (outcome_of f.rows session.sp j)))
+        (ap (does (standing f session) (uid_of object)) is ∙ gives)
+
+    tells_rows : (after : Option Uid) (count : Option ℕ) → ask ≡ Next after count
+        → takes_effect (comes_to o before session object ask) ≡ true
+        → IsGrantedAt o before session object method ask
+        → TellsRows o before step session object method args c after count
+    tells_rows after count is valid granted =
+        let told = gives_rows (standing f session) (uid_of object) after count
+        (subst (λ (a : Ask). takes_effect (does (standing f session) (uid_of object) a) ≡ true) is valid) in
+        record { rows = told.0; asked_for = told.1; says = told_as (Next after count) (uids_tree told.0 ∷ []) is valid granted told.2 }
+
+    tells_acl : (about what : Uid) → ask ≡ GetAcl about what
+        → takes_effect (comes_to o before session object ask) ≡ true
+        → IsGrantedAt o before session object method ask
+        → TellsAcl o before step session object method args c about what
+    tells_acl about what is valid granted =
+        let told = gives_acl (standing f session) (uid_of object) about what
+        (subst (λ (a : Ask). takes_effect (does (standing f session) (uid_of object) a) ≡ true) is valid) in
+        record { acl = told.0; line = told.1; says = told_as (GetAcl about what) (uids_tree told.0 ∷ []) is valid granted told.2 }
 
 pub method_law : MethodLaw
 method_law o all h later before step session object method args ask place c shaped =

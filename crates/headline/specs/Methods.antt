@@ -1,13 +1,16 @@
 -- Methods, over every lawful list of steps: a call of a right shape with valid values takes effect,
 -- and a column is listed, exactly where an access entry that names it holds of the session's
 -- authorities in its view.
-use Rattle.std.specs.Prelude.{◌++◌, ◌≡◌, ◌↔◌, ◌<◌, ℕ, true, false, List, [], ◌∷◌, map, Some, None, Ok}
+use Rattle.std.specs.Prelude.{◌++◌, ◌≡◌, ◌↔◌, ◌<◌, ℕ, true, false, List, [], ◌∷◌, map, Option, Some, None, Ok}
 use Rattle.sp_cells.specs.declared.cells.Cell.{Cell}
 use Rattle.sp_cells.specs.declared.names.Column.{Column}
 use Rattle.sp_cells.specs.declared.names.Sp.TheVariants.{Admin, Locking}
 use Rattle.sp_cells.specs.declared.names.Uid.{Uid}
 use Rattle.sp_cells.specs.ColumnNames.{pin_column}
-use Rattle.sp_cells.specs.Names.{c_pin_sid}
+use Rattle.sp_cells.specs.Names.{c_pin_sid, table_of}
+use Rattle.sp_tables.specs.RowNames.{rows_of_table}
+use Rattle.ace_eval.specs.Aces.{acl_at}
+use Rattle.methods.specs.Tables.{rows_asked, uids_tree}
 use Rattle.audit.specs.declared.reason.Why.{Why}
 use Rattle.compacket.specs.Frames.{Frame, reading as frame_in}
 use Rattle.tcg_tokens.specs.Message.{call}
@@ -145,9 +148,31 @@ pub record Lists (o : Origin) (before : List Step) (step : Step) (session : Begu
       session.sp (uid_of object) first last (standing_at o before session).held column cell
   pub rises : are_rising (map (λ (pair : Column × Cell). pair.0) cells) ≡ true
 
+-- The rows that a Next tells: all those of the table in the session's SP, in their order, or those behind the row that it
+-- names, and no more of them than its count. The ACEs that a GetACL tells: those of the line of the access list.
+pub record TellsRows (o : Origin) (before : List Step) (step : Step) (session : Begun)
+    (object method : List ℕ) (args : Trees)
+    (c : IsCallStep o before step session object method args)
+    (after : Option Uid) (count : Option ℕ) : Type 0 where
+  pub rows : List Uid
+  pub asked_for : rows_asked after count (rows_of_table session.sp (table_of (uid_of object)))
+      ≡ Some rows
+  pub says : event_after tcg o before step
+      ≡ Some (answers c.com_id c.frame.session
+      (says Unchanged (reply_of (uids_tree rows ∷ []) success)))
+
+pub record TellsAcl (o : Origin) (before : List Step) (step : Step) (session : Begun)
+    (object method : List ℕ) (args : Trees)
+    (c : IsCallStep o before step session object method args) (about what : Uid) : Type 0 where
+  pub acl : List Uid
+  pub line : acl_at o.tables.config.profile session.sp about what ≡ Some acl
+  pub says : event_after tcg o before step
+      ≡ Some (answers c.com_id c.frame.session
+      (says Unchanged (reply_of (uids_tree acl ∷ []) success)))
+
 -- Of a call of the right shape: with valid values it takes effect exactly where it is granted, and
--- then does what its method says; where it is not granted it is refused; and a Get that takes effect
--- lists exactly what has an entry.
+-- then does what its method says; where it is not granted it is refused; a Get that takes effect lists
+-- exactly what has an entry, and a Next and a GetACL tell the rows and the ACEs that there are.
 pub record IsJudged (o : Origin) (before : List Step) (step : Step) (session : Begun)
     (object method : List ℕ) (args : Trees)
     (c : IsCallStep o before step session object method args) (ask : Ask) : Type 0 where
@@ -165,6 +190,14 @@ pub record IsJudged (o : Origin) (before : List Step) (step : Step) (session : B
       → takes_effect (comes_to o before session object ask) ≡ true
       → IsGrantedAt o before session object method ask
       → Lists o before step session object method args c first last
+  pub rows_told : (after : Option Uid) (count : Option ℕ) → ask ≡ Next after count
+      → takes_effect (comes_to o before session object ask) ≡ true
+      → IsGrantedAt o before session object method ask
+      → TellsRows o before step session object method args c after count
+  pub acl_told : (about what : Uid) → ask ≡ GetAcl about what
+      → takes_effect (comes_to o before session object ask) ≡ true
+      → IsGrantedAt o before session object method ask
+      → TellsAcl o before step session object method args c about what
 
 -- Each call of a right shape among the steps of a list.
 abbrev pub AreJudged : Origin → List Step → Type 0

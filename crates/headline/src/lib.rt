@@ -28,7 +28,8 @@ pub fn law_of_denials()
 {}
 
 /// A call of a right shape with valid values takes effect, and a column is listed, exactly where an access entry that
-/// names it holds of the session's authorities in its view. Listed columns rise.
+/// names it holds of the session's authorities in its view. Listed columns rise. A Next tells the rows that there are, and
+/// a GetACL the ACEs of the line of the access list.
 ///
 /// Not said: what shapes and values are right, which the definitions of the calls say.
 pub fn law_of_methods()

@@ -1,7 +1,7 @@
 -- The number of each refusal of a call from outside. 11 was that of what has the numbers 16 to 23 now.
 use Rattle.std.specs.Prelude.{ℕ}
 use Rattle.library_calls.specs.declared.byte_calls.error.CallError.{CallError}
-use Rattle.library_calls.specs.declared.byte_calls.error.CallError.TheVariants.{OutOfMemory, NotOpen, OtherKind, Null, Length, Tag, Number, NotHeld, Room, InUse, NoRange, Overlap, Beyond, Malformed, Sectors, Shadow, Msid, Profile, Serial, Model, Psid, Datastore, RangeTwice, VersionDiffers, Shared, Misaligned, Busy}
+use Rattle.library_calls.specs.declared.byte_calls.error.CallError.TheVariants.{OutOfMemory, NotOpen, OtherKind, Null, Length, Tag, Number, NotHeld, Room, InUse, NoRange, Overlap, Beyond, Malformed, Sectors, Shadow, Msid, Profile, Serial, Model, Psid, Datastore, RangeTwice, VersionDiffers, Shared, Misaligned, Busy, Seed}
 
 -- the number of a call that was done
 abbrev pub done_code : ℕ
@@ -35,3 +35,4 @@ code_of_call VersionDiffers = 25
 code_of_call Shared = 26
 code_of_call Misaligned = 27
 code_of_call Busy = 28
+code_of_call Seed = 29

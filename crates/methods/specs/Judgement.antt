@@ -113,8 +113,8 @@ bytes_given room byte size first last = rows_given room byte size first (last_ro
 -- of a table, by the places of its rows
 abbrev pub table_given : ℕ → (ℕ → ℕ) → TableSizes → ByteTable → ℕ → Option ℕ → Judgement
 table_given room byte sizes table first last =
-    bytes_given room (λ row. byte (table_begin sizes table + row)) (bytes_of_table sizes table) first
-    last
+    bytes_given room (λ row. byte (table_begin sizes table + row)) (bytes_of_table sizes table)
+    first last
 
 -- why what a Set sets is not set, by the newest rows of its SP. Tries are no cells that a change names
 abbrev pub fault_by : ℕ → RowLook → Sp → Setting → Option SetError

@@ -77,14 +77,8 @@ fn perform(
             handlers::write(alloc, store, session, object, ask)
         }
         (Handler::Authenticate, Ask::Authenticate { authority, proof }) => {
-            handlers::authenticate(
-                alloc,
-                store,
-                sessions,
-                session,
-                *authority,
-                proof.as_slice(),
-            )
+            let proof = proof.as_slice();
+            handlers::authenticate(alloc, store, sessions, session, *authority, proof)
         }
         (Handler::Activate, _) => handlers::activate(alloc, store, session),
         (Handler::Revert, _) => handlers::revert(alloc, store, sessions, session, object),

@@ -49,8 +49,8 @@ fn columns_outcome<R: Rows>(
     held: &Authorities,
 ) -> Result<Outcome, AllocError>
     ensures { IfOk result
-        (Tells (gives room (list_given (R.profile_of rows.now) (R.look_up rows.now) sp object first last
-        held.now))) }
+        (Tells (gives room (list_given (R.profile_of rows.now) (R.look_up rows.now) sp object first
+        last held.now))) }
 {
     let listed = list_columns(alloc, rows, sp, object, first, last, held)?;
     let mut results = Vec::with_capacity(alloc, 1)?;
@@ -208,7 +208,8 @@ pub(crate) fn authenticate(
 ) -> Result<Outcome, MethodFault>
     requires lives { live_holder sessions.old session ≢ None }
     ensures fulfils { IfOk result (λ out.
-        Fulfils (outcome_in store.old session (Attempts sessions.old.beside.block authority proof.now))
+        Fulfils (outcome_in store.old session
+        (Attempts sessions.old.beside.block authority proof.now))
         out store.old store.new sessions.old sessions.new) }
     ensures err { OnErr result ((store.new ≡ store.old) × (sessions.new ≡ sessions.old)) }
     ensures memory { IfErr result (λ e. e ≡ faults.OutOfMemory) }

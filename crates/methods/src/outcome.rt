@@ -133,7 +133,8 @@ pub(crate) fn refused(alloc: Global, status: u64, rule: Rule) -> Outcome
 
 /// Whether a response can carry an answer, which has room for so many bytes.
 fn fits(room: u64, reply: &Item) -> bool
-    ensures { result ≡ (is_carried (message reply.now) && nat_le (len_of (message reply.now)) room) }
+    ensures { result
+        ≡ (is_carried (message reply.now) && nat_le (len_of (message reply.now)) room) }
 {
     if !writable(reply) {
         return false;

@@ -19,13 +19,15 @@ option_rule name default =
 abbrev pub free_rule : Text → Rule
 free_rule name = record (new_rule name) { long = Some name; value_names = 1 }
 
--- with the options of a field or an opal drive: what it tells of itself, the PIN on its label, and its DataStore
+-- with the options of a field or an opal drive: what it tells of itself, the PIN on its label, its DataStore, and its seed
 abbrev pub with_label_rules : App → App
 with_label_rules app =
     with_rule
+    (with_rule
     (with_rule (with_rule (with_rule app (free_rule (codes "serial"))) (free_rule (codes "model")))
     (free_rule (codes "psid")))
-    (free_rule (codes "datastore"))
+    (free_rule (codes "datastore")))
+    (free_rule (codes "seed"))
 
 -- with the options that say which drive is opened
 abbrev pub with_drive_rules : App → App
@@ -164,6 +166,7 @@ drive_in rows = record {
   model = first_of (codes "model") rows;
   psid = first_of (codes "psid") rows;
   datastore = first_of (codes "datastore") rows;
+  seed = first_of (codes "seed") rows;
 }
 
 -- the texts of the ranges, in their order

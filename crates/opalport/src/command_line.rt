@@ -247,6 +247,7 @@ fn with_drive<'a>(command: Command<'a>, alloc: Global) -> Result<Command<'a>, Al
     let model = "Model number of a field or opal drive";
     let psid = "PIN on the label of a field or opal drive";
     let datastore = "Bytes of its DataStore (field: 4096; opal: 10485760)";
+    let seed = "Seed of the random bytes of an opal drive (0)";
     let c = with_free_option(command, alloc, "sectors", "N", sectors)?;
     let c = with_free_option(c, alloc, "shadow", "N", shadow)?;
     let c = with_option(c, alloc, "msid", "HEX", pin, "The manufactured PIN")?;
@@ -254,7 +255,8 @@ fn with_drive<'a>(command: Command<'a>, alloc: Global) -> Result<Command<'a>, Al
     let c = with_free_option(c, alloc, "serial", "TEXT", serial)?;
     let c = with_free_option(c, alloc, "model", "TEXT", model)?;
     let c = with_free_option(c, alloc, "psid", "HEX", psid)?;
-    with_free_option(c, alloc, "datastore", "N", datastore)
+    let c = with_free_option(c, alloc, "datastore", "N", datastore)?;
+    with_free_option(c, alloc, "seed", "N", seed)
 }
 
 /// A command with what it is for, and what its help says behind its options.
@@ -436,6 +438,7 @@ fn drive_texts<'a>(matches: &ArgMatches<'a>) -> DriveTexts<'a>
         model: free_text_of(matches, "model"),
         psid: free_text_of(matches, "psid"),
         datastore: free_text_of(matches, "datastore"),
+        seed: free_text_of(matches, "seed"),
     }
 }
 

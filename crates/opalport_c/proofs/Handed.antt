@@ -5,7 +5,7 @@ use Rattle.std.specs.Prelude.{is_some}
 use Rattle.std.proofs.Common.{◌≡◌, ◌==◌, ℕ, ◌+◌, ◌%◌, ◌^◌, false, List, ◌∷◌, Option, None, Some, refl, sym, ap, subst, ◌∙◌}
 use Rattle.library_calls.specs.Refusals.{code_of_call}
 use Rattle.library_calls.specs.declared.byte_calls.error.CallError.{CallError}
-use Rattle.library_calls.specs.declared.byte_calls.error.CallError.TheVariants.{OutOfMemory, NotOpen, OtherKind, Null, Length, Tag, Number, NotHeld, Room, InUse, NoRange, Overlap, Beyond, Malformed, Sectors, Shadow, Msid, Profile, Serial, Model, Psid, Datastore, RangeTwice, VersionDiffers, Shared, Misaligned, Busy}
+use Rattle.library_calls.specs.declared.byte_calls.error.CallError.TheVariants.{OutOfMemory, NotOpen, OtherKind, Null, Length, Tag, Number, NotHeld, Room, InUse, NoRange, Overlap, Beyond, Malformed, Sectors, Shadow, Msid, Profile, Serial, Model, Psid, Datastore, RangeTwice, VersionDiffers, Shared, Misaligned, Busy, Seed}
 use Rattle.fis.specs.H2d.{h2d_at}
 use Rattle.history.specs.Opening.{Origin}
 use Rattle.history.specs.Facts.{facts}
@@ -80,6 +80,7 @@ is_refusal VersionDiffers = refl
 is_refusal Shared = refl
 is_refusal Misaligned = refl
 is_refusal Busy = refl
+is_refusal Seed = refl
 
 pub not_done : (error : CallError) → code_of_call error ≡ 0 → ⊥
 not_done error e = true≢false (sym (ap (λ (n : ℕ). n == 0) e) ∙ is_refusal error)

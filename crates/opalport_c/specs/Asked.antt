@@ -5,8 +5,8 @@ use Rattle.basics.specs.Addresses.{address_limit}
 use Rattle.basics.specs.declared.profile.Profile.{Profile}
 use Rattle.basics.specs.declared.profile.Profile.TheVariants.{Base, Field, Opal}
 use Rattle.locking.specs.declared.range.RangeRow.{RangeRow}
-use Rattle.sp_cells.specs.Config.{Config, IsWithinLimits, HasOwnShadow, HasOwnStore, is_own_shadow, AreNames, IsLabel, is_printable, config_in, named_config, labelled_config, stored_config, new_serial, new_model, new_psid, new_datastore}
-use Rattle.sp_cells.specs.Limits.{most_mbr_sectors, most_datastore_bytes, most_pin_bytes, most_serial_bytes, most_model_bytes}
+use Rattle.sp_cells.specs.Config.{Config, IsWithinLimits, HasOwnShadow, HasOwnStore, is_own_shadow, AreNames, IsLabel, is_printable, config_in, named_config, labelled_config, stored_config, seeded_config, is_own_store, new_serial, new_model, new_psid, new_datastore}
+use Rattle.sp_cells.specs.Limits.{most_mbr_sectors, most_datastore_bytes, new_seed, most_pin_bytes, most_serial_bytes, most_model_bytes}
 use Rattle.sp_cells.specs.declared.error.SetError.{SetError}
 use Rattle.history.specs.Opening.{Origin, opened_with}
 use Rattle.drive.specs.State.{DriveState, Agrees}
@@ -54,10 +54,12 @@ is_bare serial model psid =
 
 -- a drive of a further profile, with what it is given
 abbrev pub config_of : Profile → Size → List ℕ → List ℕ → List ℕ → List ℕ → Config
-config_of profile size msid serial model psid = stored_config
+config_of profile size msid serial model psid = seeded_config
+    (stored_config
     (labelled_config (named_config (config_in profile size.sectors size.shadow msid)
     (bytes_or serial new_serial) (bytes_or model new_model)) (bytes_or psid new_psid))
-    (store_or profile size.datastore)
+    (store_or profile size.datastore))
+    size.seed
 
 -- The configuration is the one that is asked for. A drive of `Base` is given no names.
 abbrev pub NamesAsked : Profile → Size → List ℕ → List ℕ → List ℕ → List ℕ → Config → Type 0
@@ -72,13 +74,22 @@ abbrev pub ConfigAsked : Size → List ℕ → List ℕ → List ℕ → List �
 ConfigAsked size msid serial model psid config = (profile_asked size.profile ≡ Some config.profile)
     × NamesAsked config.profile size msid serial model psid config
 
--- There is a drive of `Base` with these numbers: within the limits of a drive, with no names and the DataStore that it has.
+-- whether a drive of this profile is given such a seed: only one of `Opal` gives random bytes
+abbrev pub takes_seed : Profile → ℕ → Bool
+takes_seed Base seed = seed == new_seed
+takes_seed Field seed = seed == new_seed
+takes_seed Opal seed = true
+
+-- There is a drive of `Base` with these numbers: within the limits of a drive, with no names, the DataStore that it has, and
+-- no seed.
 pub record FitsBase (size : Size) (msid serial model psid : List ℕ) : Type 0 where
   pub limits : IsWithinLimits size.sectors size.shadow msid
   pub bare : is_bare serial model psid ≡ true
   pub datastore : size.datastore ≡ any_size
+  pub seed : takes_seed Base size.seed ≡ true
 
--- There is one of a further profile: within the limits, with a shadow, names, a PIN on its label and a DataStore that fit.
+-- There is one of a further profile: within the limits, with a shadow, names, a PIN on its label, a DataStore and a seed that
+-- fit.
 pub record FitsBeyond (profile : Profile) (size : Size) (msid serial model psid : List ℕ)
     : Type 0 where
   pub limits : IsWithinLimits size.sectors size.shadow msid
@@ -87,6 +98,7 @@ pub record FitsBeyond (profile : Profile) (size : Size) (msid serial model psid 
   pub label : IsLabel (bytes_or psid new_psid)
   pub datastore : store_or profile size.datastore ≤ most_datastore_bytes
   pub store : HasOwnStore profile (store_or profile size.datastore)
+  pub seed : takes_seed profile size.seed ≡ true
 
 abbrev pub FitsProfile : Option Profile → Size → List ℕ → List ℕ → List ℕ → List ℕ → Type 0
 FitsProfile None size msid serial model psid = ⊥
@@ -130,18 +142,30 @@ takes_label Base psid = length psid == 0
 takes_label Field psid = nat_le (length psid) most_pin_bytes
 takes_label Opal psid = nat_le (length psid) most_pin_bytes
 
+-- whether it is told such a size of DataStore
+abbrev pub fits_store : Profile → ℕ → Bool
+fits_store profile datastore =
+    nat_le datastore most_datastore_bytes && is_own_store profile datastore
+
+abbrev pub takes_store : Profile → ℕ → Bool
+takes_store Base datastore = datastore == any_size
+takes_store Field datastore = fits_store Field (store_or Field datastore)
+takes_store Opal datastore = fits_store Opal (store_or Opal datastore)
+
 -- Which setting is outside its limits, the first in this order: the rows, the profile, the sectors, the shadow, the MSID,
--- the names, the label. Where it is none of these, it is DataStore.
-abbrev pub wrong_name : Profile → List ℕ → List ℕ → List ℕ → CallError
-wrong_name profile serial model psid = if takes_name profile most_serial_bytes serial
+-- the names, the label, DataStore. Where it is none of these, it is the seed.
+abbrev pub wrong_name : Profile → ℕ → List ℕ → List ℕ → List ℕ → CallError
+wrong_name profile datastore serial model psid = if takes_name profile most_serial_bytes serial
     then (if takes_name profile most_model_bytes model
-    then (if takes_label profile psid then refusals.Datastore else refusals.Psid)
-    else refusals.Model) else refusals.Serial
+    then (if takes_label profile psid
+    then (if takes_store profile datastore then refusals.Seed else refusals.Datastore)
+    else refusals.Psid) else refusals.Model) else refusals.Serial
 
 abbrev pub wrong_number : Profile → Size → List ℕ → List ℕ → List ℕ → List ℕ → CallError
 wrong_number profile size msid serial model psid = if has_sectors size.sectors
     then (if has_shadow profile size.sectors size.shadow
-    then (if has_msid msid then wrong_name profile serial model psid else refusals.Msid)
+    then (if has_msid msid then wrong_name profile size.datastore serial model psid
+    else refusals.Msid)
     else refusals.Shadow) else refusals.Sectors
 
 abbrev pub wrong_under : Option Profile → Size → List ℕ → List ℕ → List ℕ → List ℕ → CallError

@@ -8,7 +8,7 @@ ghost use Rattle.opalport_c.specs.Asked.{row_asked, profile_asked, bytes_or, is_
 ghost use Rattle.library_calls.specs.declared.byte_calls.error.CallError.TheVariants.{OutOfMemory};
 
 use crate::refusals::of_set;
-use crate::settings::{names_twice, wrong_setting};
+use crate::settings::{names_twice, takes_seed, wrong_setting};
 use basics::Profile;
 use drive::{Drive, DriveConfig, RangeRow};
 use library_calls::byte_calls::CallError;
@@ -29,6 +29,8 @@ pub struct Size {
     /// The bytes of DataStore, at most 16,777,216, or [`ANY_SIZE`]. A drive of the profile 0 takes `ANY_SIZE` alone, and one
     /// of the profile 2 at least 10,485,760.
     pub datastore: u64,
+    /// The seed of the random bytes. A drive of the profiles 0 and 1 takes 0 alone.
+    pub seed: u64,
     /// 0 is `Base`, 1 is `Field`, 2 is `Opal`.
     pub profile: u32,
 }
@@ -111,7 +113,7 @@ impl Names<'_> {
 }
 
 /// The bytes of DataStore that are asked for.
-fn store_or(profile: Profile, datastore: u64) -> u64
+pub(crate) fn store_or(profile: Profile, datastore: u64) -> u64
     ensures { result ≡ store_or profile datastore }
 {
     if datastore == ANY_SIZE {
@@ -128,7 +130,7 @@ fn base_config(size: &Size, names: &Names<'_>) -> Option<DriveConfig>
         (config_in Base size.now.sectors size.now.shadow names.now.msid.now) }
 {
     let config = DriveConfig::new(size.sectors, size.shadow, names.msid)?;
-    if !names.is_bare() || size.datastore != ANY_SIZE {
+    if !names.is_bare() || size.datastore != ANY_SIZE || !takes_seed(Profile::Base, size.seed) {
         return None;
     }
     Some(config)
@@ -141,12 +143,16 @@ fn config_of(profile: Profile, size: &Size, names: &Names<'_>) -> Option<DriveCo
         (config_of profile size.now names.now.msid.now names.now.serial.now names.now.model.now
         names.now.psid.now) }
 {
+    if !takes_seed(profile, size.seed) {
+        return None;
+    }
     let config = DriveConfig::of_profile(profile, size.sectors, size.shadow, names.msid)?;
     let serial = bytes_or(names.serial, &NEW_SERIAL);
     let model = bytes_or(names.model, &NEW_MODEL);
     let config = config.with_names(serial, model)?;
     let config = config.with_psid(bytes_or(names.psid, &NEW_PSID))?;
-    config.with_datastore(store_or(profile, size.datastore))
+    let config = config.with_datastore(store_or(profile, size.datastore))?;
+    Some(config.with_seed(size.seed))
 }
 
 /// The configuration that is asked for, if there is such a drive.

@@ -3,13 +3,16 @@
 ghost use Rattle.std.specs.Prelude.{◌≡◌};
 ghost use Rattle.std.specs.List.{list_all, list_any};
 ghost use Rattle.sp_cells.specs.Config.{is_printable};
-ghost use Rattle.opalport_c.specs.Asked.{is_row_of, names_twice, has_sectors, has_shadow, has_msid, takes_name, takes_label, wrong_name, wrong_number, wrong_setting};
+ghost use Rattle.opalport_c.specs.Asked.{is_row_of, names_twice, has_sectors, has_shadow, has_msid, takes_name, takes_label, fits_store, takes_store, takes_seed, wrong_name, wrong_number, wrong_setting};
 
-use crate::asked::{Names, RangeCells, Size, profile_asked};
+use crate::asked::{ANY_SIZE, Names, RangeCells, Size, profile_asked, store_or};
 use basics::{ADDRESS_LIMIT, Profile};
 use library_calls::byte_calls::CallError;
-use sp_cells::config::is_own_shadow;
-use sp_cells::limits::{MOST_MBR_SECTORS, MOST_MODEL_BYTES, MOST_PIN_BYTES, MOST_SERIAL_BYTES};
+use sp_cells::config::{is_own_shadow, is_own_store};
+use sp_cells::limits::{
+    MOST_DATASTORE_BYTES, MOST_MBR_SECTORS, MOST_MODEL_BYTES, MOST_PIN_BYTES, MOST_SERIAL_BYTES,
+    NEW_SEED,
+};
 
 /// Whether one of the rows is of this range.
 fn has_row_of(cells: &[RangeCells], range: u8) -> bool
@@ -85,9 +88,37 @@ fn takes_label(profile: Profile, psid: &[u8]) -> bool
     }
 }
 
-/// Which of the names and the label is outside its limits, the first; `Datastore` where none is.
-fn wrong_name(profile: Profile, names: &Names<'_>) -> CallError
-    ensures { result ≡ wrong_name profile names.now.serial.now names.now.model.now
+/// Whether DataStore of a drive of this profile has so many bytes.
+fn fits_store(profile: Profile, datastore: u64) -> bool
+    ensures { result ≡ fits_store profile datastore }
+{
+    datastore <= MOST_DATASTORE_BYTES && is_own_store(profile, datastore)
+}
+
+/// Whether a drive of this profile is told such a size of DataStore.
+fn takes_store(profile: Profile, datastore: u64) -> bool
+    ensures { result ≡ takes_store profile datastore }
+{
+    match profile {
+        Profile::Base => datastore == ANY_SIZE,
+        Profile::Field => fits_store(Profile::Field, store_or(Profile::Field, datastore)),
+        Profile::Opal => fits_store(Profile::Opal, store_or(Profile::Opal, datastore)),
+    }
+}
+
+/// Whether a drive of this profile is given such a seed.
+pub(crate) fn takes_seed(profile: Profile, seed: u64) -> bool
+    ensures { result ≡ takes_seed profile seed }
+{
+    match profile {
+        Profile::Base | Profile::Field => seed == NEW_SEED,
+        Profile::Opal => true,
+    }
+}
+
+/// Which of the names, the label and DataStore is outside its limits, the first; `Seed` where none is.
+fn wrong_name(profile: Profile, datastore: u64, names: &Names<'_>) -> CallError
+    ensures { result ≡ wrong_name profile datastore names.now.serial.now names.now.model.now
         names.now.psid.now }
 {
     if !takes_name(profile, MOST_SERIAL_BYTES, names.serial) {
@@ -99,10 +130,13 @@ fn wrong_name(profile: Profile, names: &Names<'_>) -> CallError
     if !takes_label(profile, names.psid) {
         return CallError::Psid;
     }
-    CallError::Datastore
+    if !takes_store(profile, datastore) {
+        return CallError::Datastore;
+    }
+    CallError::Seed
 }
 
-/// Which of the sizes and texts is outside its limits, the first; `Datastore` where none of the others is.
+/// Which of the sizes and texts is outside its limits, the first; `Seed` where none of the others is.
 fn wrong_number(profile: Profile, size: &Size, names: &Names<'_>) -> CallError
     ensures { result ≡ wrong_number profile size.now names.now.msid.now names.now.serial.now
         names.now.model.now names.now.psid.now }
@@ -116,11 +150,11 @@ fn wrong_number(profile: Profile, size: &Size, names: &Names<'_>) -> CallError
     if !has_msid(names.msid) {
         return CallError::Msid;
     }
-    wrong_name(profile, names)
+    wrong_name(profile, size.datastore, names)
 }
 
 /// Which setting is outside its limits, the first: `RangeTwice`, `Profile`, `Sectors`, `Shadow`, `Msid`, `Serial`, `Model`,
-/// `Psid`; `Datastore` where none of the others is.
+/// `Psid`, `Datastore`; `Seed` where none of the others is.
 pub(crate) fn wrong_setting(size: &Size, names: &Names<'_>, cells: &[RangeCells]) -> CallError
     ensures { result ≡ wrong_setting size.now names.now.msid.now names.now.serial.now
         names.now.model.now names.now.psid.now cells.now }

@@ -6,7 +6,7 @@ use Rattle.hex.specs.declared.error.FromHexError.{FromHexError}
 use Rattle.basics.specs.declared.profile.Profile.{Profile}
 use Rattle.basics.specs.declared.profile.Profile.TheVariants.{Base, Field, Opal}
 use Rattle.sp_cells.specs.Config.{Config, IsWithinLimits, HasOwnShadow, HasOwnStore, AreNames, IsLabel, new_serial, new_model, new_psid, new_datastore}
-use Rattle.sp_cells.specs.Limits.{most_datastore_bytes, opal_mbr_sectors}
+use Rattle.sp_cells.specs.Limits.{most_datastore_bytes, opal_mbr_sectors, new_seed}
 use Rattle.script_lines.specs.Numbers.{number_up_to, largest}
 use Rattle.tool.specs.declared.options.DriveTexts.{DriveTexts}
 use Rattle.tool.specs.declared.options.OptionsFault.{OptionsFault}
@@ -22,6 +22,7 @@ pub record DriveText : Type 0 where
   pub model : Option (List ℕ)
   pub psid : Option (List ℕ)
   pub datastore : Option (List ℕ)
+  pub seed : Option (List ℕ)
 
 abbrev pub drive_text : DriveTexts → DriveText
 drive_text texts = record {
@@ -33,6 +34,7 @@ drive_text texts = record {
   model = option_map (λ s. s.now) texts.model;
   psid = option_map (λ s. s.now) texts.psid;
   datastore = option_map (λ s. s.now) texts.datastore;
+  seed = option_map (λ s. s.now) texts.seed;
 }
 
 abbrev pub profile_named : List ℕ → Option Profile
@@ -60,12 +62,15 @@ abbrev pub size_or : ℕ → Option (List ℕ) → Option ℕ
 size_or other None = Some other
 size_or other (Some text) = number_up_to (largest 64) text
 
--- the sectors that the texts write, and those of the shadow
+-- the sectors that the texts write, those of the shadow, and the seed
 abbrev pub sectors_in : DriveText → Option ℕ
 sectors_in texts = size_or (new_sectors (profile_named texts.profile)) texts.sectors
 
 abbrev pub shadow_in : DriveText → Option ℕ
 shadow_in texts = size_or (new_shadow (profile_named texts.profile)) texts.shadow
+
+abbrev pub seed_in : DriveText → Option ℕ
+seed_in texts = size_or new_seed texts.seed
 
 -- a text, or another one where there is none
 abbrev pub text_or : List ℕ → Option (List ℕ) → List ℕ
@@ -93,6 +98,12 @@ may_have_store Base texts = not (is_some texts.datastore)
 may_have_store Field texts = true
 may_have_store Opal texts = true
 
+-- only a drive of the profile Opal gives random bytes, and has a seed
+abbrev pub may_have_seed : Profile → DriveText → Bool
+may_have_seed Base texts = not (is_some texts.seed)
+may_have_seed Field texts = not (is_some texts.seed)
+may_have_seed Opal texts = true
+
 -- the bytes of DataStore that a number says, or those of a drive that is told none
 abbrev pub store_of : Profile → Option (List ℕ) → Option ℕ
 store_of profile text = size_or (new_datastore profile) text
@@ -111,14 +122,16 @@ has_empty_name texts = is_empty_text texts.serial || is_empty_text texts.model
 pub record IsStore (profile : Profile) (texts : DriveText) (datastore : ℕ) : Type 0 where
   pub names_wanted : may_have_names profile texts ≡ true
   pub store_wanted : may_have_store profile texts ≡ true
+  pub seed_wanted : may_have_seed profile texts ≡ true
   pub number : store_of profile texts.datastore ≡ Some datastore
   pub some_names : has_empty_name texts ≡ false
 
 -- The texts write the configuration: two decimal numbers of 64 bits, hex, the name of a profile, the names of a drive,
--- hex, and a decimal number. What is left out is as in a new drive of the profile.
+-- hex, and two decimal numbers. What is left out is as in a new drive of the profile.
 pub record WritesConfig (texts : DriveText) (config : Config) : Type 0 where
   pub sectors_written : sectors_in texts ≡ Some config.sectors
   pub shadow_written : shadow_in texts ≡ Some config.mbr_sectors
+  pub seed_written : seed_in texts ≡ Some config.seed
   pub msid_written : decode_of texts.msid ≡ Ok config.msid
   pub profile_written : profile_named texts.profile ≡ Some config.profile
   pub serial_written : config.serial ≡ text_or new_serial texts.serial
@@ -143,9 +156,10 @@ IsOfDrive config =
     HasDriveSizes config
     × AreNames config.serial config.model × IsLabel config.psid × HasStoreSize config
 
--- the numbers of sectors are written as numbers
+-- the numbers of sectors and the seed are written as numbers
 abbrev pub AreNumbers : DriveText → Type 0
-AreNumbers texts = (sectors_in texts ≡ None → ⊥) × (shadow_in texts ≡ None → ⊥)
+AreNumbers texts =
+    (sectors_in texts ≡ None → ⊥) × (shadow_in texts ≡ None → ⊥) × (seed_in texts ≡ None → ⊥)
 
 -- both PINs are written in hex
 abbrev pub AreHex : DriveText → Type 0
@@ -156,12 +170,17 @@ abbrev pub IsStoreFault : Profile → DriveText → OptionsFault → Type 0
 IsStoreFault profile texts faults.NamesOfBase = may_have_names profile texts ≡ false
 IsStoreFault profile texts faults.DatastoreOfBase =
     (may_have_names profile texts ≡ true) × (may_have_store profile texts ≡ false)
+IsStoreFault profile texts faults.SeedBelowOpal =
+    (may_have_names profile texts ≡ true) × (may_have_store profile texts ≡ true)
+    × (may_have_seed profile texts ≡ false)
 IsStoreFault profile texts faults.Datastore =
     (may_have_names profile texts ≡ true) × (may_have_store profile texts ≡ true)
+    × (may_have_seed profile texts ≡ true)
     × (store_of profile texts.datastore ≡ None)
 IsStoreFault profile texts faults.EmptyName =
     (may_have_names profile texts ≡ true) × (may_have_store profile texts ≡ true)
-    × (store_of profile texts.datastore ≡ None → ⊥) × (has_empty_name texts ≡ true)
+    × (may_have_seed profile texts ≡ true) × (store_of profile texts.datastore ≡ None → ⊥)
+    × (has_empty_name texts ≡ true)
 IsStoreFault profile texts fault = ⊥
 
 abbrev pub IsFaultUnder : DriveText → OptionsFault → Type 0
@@ -176,6 +195,8 @@ abbrev pub IsFirstOptionFault : DriveText → OptionsFault → Type 0
 IsFirstOptionFault texts faults.Sectors = sectors_in texts ≡ None
 IsFirstOptionFault texts faults.Shadow =
     (sectors_in texts ≡ None → ⊥) × (shadow_in texts ≡ None)
+IsFirstOptionFault texts faults.Seed =
+    (sectors_in texts ≡ None → ⊥) × (shadow_in texts ≡ None → ⊥) × (seed_in texts ≡ None)
 IsFirstOptionFault texts (faults.Msid fault) = AreNumbers texts × (decode_of texts.msid ≡ Err fault)
 IsFirstOptionFault texts (faults.Psid fault) =
     AreNumbers texts × IsOk (decode_of texts.msid) × (label_of texts.psid ≡ Err fault)
@@ -183,6 +204,7 @@ IsFirstOptionFault texts faults.Profile =
     AreNumbers texts × AreHex texts × (profile_named texts.profile ≡ None)
 IsFirstOptionFault texts faults.NamesOfBase = IsFaultUnder texts faults.NamesOfBase
 IsFirstOptionFault texts faults.DatastoreOfBase = IsFaultUnder texts faults.DatastoreOfBase
+IsFirstOptionFault texts faults.SeedBelowOpal = IsFaultUnder texts faults.SeedBelowOpal
 IsFirstOptionFault texts faults.Datastore = IsFaultUnder texts faults.Datastore
 IsFirstOptionFault texts faults.EmptyName = IsFaultUnder texts faults.EmptyName
 IsFirstOptionFault texts (faults.NoDrive profile sectors shadow size) =

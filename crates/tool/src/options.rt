@@ -14,7 +14,7 @@ use sp_cells::DriveConfig;
 use sp_cells::config::{NEW_MODEL, NEW_PSID, NEW_SERIAL, new_datastore_of};
 use sp_cells::limits::{
     LEAST_OPAL_DATASTORE_BYTES, MOST_DATASTORE_BYTES, MOST_MBR_SECTORS, MOST_MODEL_BYTES,
-    MOST_PIN_BYTES, MOST_SERIAL_BYTES, OPAL_MBR_SECTORS,
+    MOST_PIN_BYTES, MOST_SERIAL_BYTES, NEW_SEED, OPAL_MBR_SECTORS,
 };
 use std::alloc::Global;
 use std::error::Error;
@@ -26,6 +26,7 @@ use std::marker::Model;
 pub enum OptionsFault {
     Sectors,
     Shadow,
+    Seed,
     Msid(FromHexError),
     Psid(FromHexError),
     /// The text names no profile.
@@ -34,6 +35,8 @@ pub enum OptionsFault {
     NamesOfBase,
     /// A drive of the profile `Base` has no DataStore.
     DatastoreOfBase,
+    /// Only a drive of the profile `Opal` gives random bytes.
+    SeedBelowOpal,
     Datastore,
     /// The serial number or the model number is given, and has no character.
     EmptyName,
@@ -115,6 +118,7 @@ impl fmt::Display for OptionsFault {
         match *self {
             OptionsFault::Sectors => f.write_str("--sectors is no decimal number of 64 bits"),
             OptionsFault::Shadow => f.write_str("--shadow is no decimal number of 64 bits"),
+            OptionsFault::Seed => f.write_str("--seed is no decimal number of 64 bits"),
             OptionsFault::Msid(fault) => write!(f, "--msid is not written in hex: {fault}"),
             OptionsFault::Psid(fault) => write!(f, "--psid is not written in hex: {fault}"),
             OptionsFault::Profile => { f.write_str("--profile is none of base, field and opal") }
@@ -124,6 +128,7 @@ impl fmt::Display for OptionsFault {
             OptionsFault::DatastoreOfBase => {
                 f.write_str("--datastore wants --profile field or opal")
             }
+            OptionsFault::SeedBelowOpal => f.write_str("--seed wants --profile opal"),
             OptionsFault::Datastore => {
                 f.write_str("--datastore is no decimal number of 64 bits")
             }
@@ -167,6 +172,7 @@ pub struct DriveTexts<'a> {
     pub model: Option<&'a str>,
     pub psid: Option<&'a str>,
     pub datastore: Option<&'a str>,
+    pub seed: Option<&'a str>,
 }
 
 /// The sectors of a drive of the profiles `Base` and `Field` that is told none.
@@ -278,14 +284,16 @@ impl Options {
     ghost use Rattle.tool.specs.OptionTexts.{WritesConfig, IsFirstOptionFault, drive_text};
 
     /// Reads the values as they are written on the command line: two decimal numbers, hex, the name of a profile, two
-    /// names, hex, and a decimal number. The first fault is told: `Sectors`, `Shadow`, `Msid`, `Psid`, `Profile`,
-    /// `NamesOfBase`, `DatastoreOfBase`, `Datastore`, `EmptyName`, `NoDrive`, `Names`, `Label`, `DatastoreSize`.
+    /// names, hex, and two decimal numbers. The first fault is told: `Sectors`, `Shadow`, `Seed`, `Msid`, `Psid`, `Profile`,
+    /// `NamesOfBase`, `DatastoreOfBase`, `SeedBelowOpal`, `Datastore`, `EmptyName`, `NoDrive`, `Names`, `Label`,
+    /// `DatastoreSize`.
     pub fn parse(alloc: Global, texts: &DriveTexts<'_>) -> Result<Options, OptionsFault>
         ensures read { IfOk result (λ options. WritesConfig (drive_text texts.now) options) }
         ensures fault { IfErr result (λ fault. IsFirstOptionFault (drive_text texts.now) fault) }
     {
         let sectors = texts.sectors_in().ok_or(OptionsFault::Sectors)?;
         let shadow = texts.shadow_in().ok_or(OptionsFault::Shadow)?;
+        let seed = texts.seed_in().ok_or(OptionsFault::Seed)?;
         let msid = match hex::decode(alloc, texts.msid.as_bytes()) {
             Ok(msid) => msid,
             Err(FromHexError::OutOfMemory) => return Err(OptionsFault::OutOfMemory),
@@ -315,7 +323,9 @@ impl Options {
             return Err(OptionsFault::Label { psid: psid.len() });
         };
         match config.with_datastore(datastore) {
-            Some(config) => Ok(Options { config }),
+            Some(config) => Ok(Options {
+                config: config.with_seed(seed),
+            }),
             None => Err(OptionsFault::DatastoreSize { datastore }),
         }
     }
@@ -338,13 +348,14 @@ impl Options {
         .unwrap()
         .with_datastore(config.datastore())
         .unwrap()
+        .with_seed(config.seed())
     }
 }
 
 impl DriveTexts<'_> {
     ghost use Rattle.std.specs.Prelude.{◌≡◌};
     ghost use Rattle.std.specs.Prelude.{IfOk, IfErr};
-    ghost use Rattle.tool.specs.OptionTexts.{drive_text, sectors_in, shadow_in, has_names, may_have_names, may_have_store, has_empty_name, IsStore, IsStoreFault};
+    ghost use Rattle.tool.specs.OptionTexts.{drive_text, sectors_in, shadow_in, seed_in, has_names, may_have_names, may_have_store, may_have_seed, has_empty_name, IsStore, IsStoreFault};
 
     /// The sectors that the texts write.
     fn sectors_in(&self) -> Option<u64>
@@ -364,6 +375,13 @@ impl DriveTexts<'_> {
             new_shadow_of(profile_named(self.profile.as_bytes())),
             self.shadow,
         )
+    }
+
+    /// The seed that the texts write.
+    fn seed_in(&self) -> Option<u64>
+        ensures { result ≡ seed_in (drive_text self.now) }
+    {
+        size_or(NEW_SEED, self.seed)
     }
 
     /// Whether a serial number, a model number or a PSID is given.
@@ -393,6 +411,16 @@ impl DriveTexts<'_> {
         }
     }
 
+    /// Whether a drive of this profile may have the seed that is given.
+    fn may_have_seed(&self, profile: Profile) -> bool
+        ensures { result ≡ may_have_seed profile (drive_text self.now) }
+    {
+        match profile {
+            Profile::Base | Profile::Field => self.seed.is_none(),
+            Profile::Opal => true,
+        }
+    }
+
     /// Whether a name is given that has no character.
     fn has_empty_name(&self) -> bool
         ensures { result ≡ has_empty_name (drive_text self.now) }
@@ -410,6 +438,9 @@ impl DriveTexts<'_> {
         }
         if !self.may_have_store(profile) {
             return Err(OptionsFault::DatastoreOfBase);
+        }
+        if !self.may_have_seed(profile) {
+            return Err(OptionsFault::SeedBelowOpal);
         }
         let Some(datastore) = size_or(new_datastore_of(profile), self.datastore) else {
             return Err(OptionsFault::Datastore);

@@ -118,7 +118,8 @@ Manages com_id session tokens s old new =
 abbrev pub ServesSession : ℕ → Session → SessionId → List ℕ → Sent → Tper → Tper → Type 0
 ServesSession com_id session id tokens s old new =
     ((breaks_off old.store.config.profile (item_in old.store.config.profile tokens) ≡ true)
-    × BreaksOff BrokenOff (λ said. OfSession (λ f its. says (Ended its.sp) end_session) id said old.store
+    × BreaksOff BrokenOff (λ said. OfSession (λ f its. says (Ended its.sp) end_session) id said
+    old.store
     new.store old.live new.live) s old new)
     ⊎ ((breaks_off old.store.config.profile (item_in old.store.config.profile tokens) ≡ false)
     × Handles (λ said. OfSession (λ f its. in_session f its (item_in f.config.profile tokens)) id

@@ -29,8 +29,8 @@ pub fn laws_of_answers()
         → is_carried (outcome_of rows sp (judged its object method ask)).said ≡ true }
     ensures start { (s : Stored) (l : Live) (args : List Tree)
         → is_carried (start_reply s l args) ≡ true }
-    ensures properties { (profile : Profile) (before : HostLimits) (args : List Tree) → IsSmall before
-        → is_carried (properties_message profile before args) ≡ true }
+    ensures properties { (profile : Profile) (before : HostLimits) (args : List Tree)
+        → IsSmall before → is_carried (properties_message profile before args) ≡ true }
 {}
 
 /// What Properties tells of sizes is what ComPackets have: at most so many bytes, less the ComPacket's header in a packet.

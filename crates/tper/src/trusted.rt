@@ -372,7 +372,8 @@ impl Tper {
 
     /// A session ends by a rule, and nothing is answered.
     fn break_off(&mut self, id: SessionId, rule: Rule) -> Sent
-        ensures ends { BreaksOff rule (λ said. OfSession (λ f its. says (Ended its.sp) end_session) id
+        ensures ends { BreaksOff rule (λ said. OfSession
+            (λ f its. says (Ended its.sp) end_session) id
             said self.old.store self.new.store self.old.live self.new.live) result self.old
             self.new }
         ensures changes { result.changes ≡ true }

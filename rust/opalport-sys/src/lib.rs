@@ -31,7 +31,9 @@ pub struct Size {
     pub shadow: u64,
     /// How many bytes DataStore has; `u64::MAX` stands for the size that a drive has where none is asked for.
     pub datastore: u64,
-    /// 0 is base, 1 is field.
+    /// The seed of the random bytes; 0 unless the profile is opal.
+    pub seed: u64,
+    /// 0 is base, 1 is field, 2 is opal.
     pub profile: u32,
 }
 

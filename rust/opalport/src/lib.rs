@@ -89,6 +89,8 @@ pub enum Error {
     Psid,
     /// A DataStore has at most 16,777,216 bytes, with the profile opal at least 10,485,760, and base has none.
     Datastore,
+    /// With the profile base or field a seed is 0.
+    Seed,
     /// Two rows are of one range.
     RangeTwice,
     /// The crate and the library are of versions that do not fit.
@@ -156,6 +158,7 @@ impl Error {
             26 => Error::Shared,
             27 => Error::Misaligned,
             28 => Error::Busy,
+            29 => Error::Seed,
             101 => Error::PortSlotBusy,
             102 => Error::PortNotPrepared,
             103 => Error::PortQueue,
@@ -205,6 +208,7 @@ impl fmt::Display for Error {
             Error::Datastore => {
                 "a DataStore has at most 16,777,216 bytes, with the profile opal at least 10,485,760, and base has none"
             }
+            Error::Seed => "with the profile base or field a seed is 0",
             Error::RangeTwice => "two rows are of one range",
             Error::VersionDiffers => "the crate and the library are of versions that do not fit",
             Error::Shared => "a buffer that is written has a byte in common with another one",
@@ -356,7 +360,7 @@ impl Profile {
     }
 }
 
-/// What a drive of the profile `field` or `opal` tells of itself, its PIN and its DataStore.
+/// What a drive of the profile `field` or `opal` tells of itself, its PIN, its DataStore and its seed.
 #[derive(Clone, Copy, Debug, Default)]
 pub struct Label<'a> {
     /// At most 20 characters of printable ASCII.
@@ -367,6 +371,8 @@ pub struct Label<'a> {
     pub psid: &'a [u8],
     /// How many bytes DataStore has: at most 16,777,216, with `opal` at least 10,485,760.
     pub datastore: Option<u64>,
+    /// The seed of the random bytes: any number; 0 unless the profile is `opal`.
+    pub seed: u64,
 }
 
 impl Default for Config<'_> {
@@ -577,6 +583,7 @@ impl Object {
             sectors: config.sectors,
             shadow: config.shadow,
             datastore: label.datastore.map_or(u64::MAX, |bytes| bytes.min(u64::MAX - 1)),
+            seed: label.seed,
             profile: config.profile.number().into(),
         };
         let cells: Vec<raw::RangeCells> = config.ranges.iter().map(cells_of).collect();

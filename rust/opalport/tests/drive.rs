@@ -19,6 +19,10 @@ const LOCKED: Range = Range {
 const START: &str = "f8a800000000000000ffa8000000000000ff02f007a8000002050000000201f200a84f50414c4d534944f3f203a80000000900010001f3f1f9f0000000f1";
 const UNLOCK: &str = "f8a80000080200030001a80000000600000017f0f201f0f20700f3f20800f3f1f3f1f9f0000000f1";
 
+/// StartSession on the Locking SP without an authority, and Random of ThisSP, of 8 bytes.
+const START_AS_ANYBODY: &str = "f8a800000000000000ffa8000000000000ff02f007a8000002050000000201f1f9f0000000f1";
+const RANDOM: &str = "f8a80000000000000001a80000000600000601f008f1f9f0000000f1";
+
 fn bytes(hex: &str) -> Vec<u8> {
     (0..hex.len()).step_by(2).map(|at| u8::from_str_radix(&hex[at..at + 2], 16).unwrap()).collect()
 }
@@ -106,6 +110,7 @@ fn what_a_caller_gets_wrong_is_an_error() {
         (field(Label { model: "x".repeat(41).as_str(), ..Label::default() }), Error::Model),
         (field(Label { psid: &[0; 33], ..Label::default() }), Error::Psid),
         (field(Label { datastore: Some(1 << 24 | 1), ..Label::default() }), Error::Datastore),
+        (field(Label { seed: 1, ..Label::default() }), Error::Seed),
         (Config { label: Label { serial: "1", ..Label::default() }, ..Config::default() }, Error::Serial),
         (Config { shadow: 262_143, ..Config::opal() }, Error::Shadow),
         (Config { label: Label { datastore: Some(10_485_759), ..Label::default() }, ..Config::opal() }, Error::Datastore),
@@ -113,6 +118,16 @@ fn what_a_caller_gets_wrong_is_an_error() {
         assert_eq!(Drive::new(&config).err(), Some(error));
     }
     assert_eq!(Drive::new(&Config { ranges: &[LOCKED, Range { range: 2, ..LOCKED }], ..Config::default() }).err(), Some(Error::Overlap));
+}
+
+#[test]
+fn random_bytes_come_of_the_seed() {
+    for (seed, told) in [(0, "9e3cda7817b553f1"), (1 << 56, "9f3ddb7918b654f2")] {
+        let label = Label { seed, ..Label::default() };
+        let mut drive = Drive::new(&Config { label, ranges: &[LOCKED], ..Config::opal() }).unwrap();
+        call(&mut drive, 0, 0, START_AS_ANYBODY);
+        assert_eq!(call(&mut drive, 0x1000, 7, RANDOM), format!("reply [x{told}] 0 0 0"));
+    }
 }
 
 #[test]

@@ -63,6 +63,8 @@ pub enum CallError {
     Misaligned,
     /// Another call is at work on the object of the handle.
     Busy,
+    /// Only the profile `Opal` is given a seed other than 0.
+    Seed,
 }
 
 impl CallError {
@@ -98,6 +100,7 @@ impl CallError {
             CallError::Shared => 26,
             CallError::Misaligned => 27,
             CallError::Busy => 28,
+            CallError::Seed => 29,
         }
     }
 }

@@ -13,6 +13,7 @@ returns c =
     let five = c.in_ok-c-5.ensures ∙ ap (λ (a : App). with_rule a (free_rule (codes "serial"))) four in
     let six = c.in_ok-c-6.ensures ∙ ap (λ (a : App). with_rule a (free_rule (codes "model"))) five in
     let seven = c.in_ok-c-7.ensures ∙ ap (λ (a : App). with_rule a (free_rule (codes "psid"))) six in
-    IfOk-weaker c.with_free_option-6.result _ _
-    (λ command is. is ∙ ap (λ (a : App). with_rule a (free_rule (codes "datastore"))) seven)
-    c.with_free_option-6.ensures
+    let eight = c.in_ok-c-8.ensures ∙ ap (λ (a : App). with_rule a (free_rule (codes "datastore"))) seven in
+    IfOk-weaker c.with_free_option-7.result _ _
+    (λ command is. is ∙ ap (λ (a : App). with_rule a (free_rule (codes "seed"))) eight)
+    c.with_free_option-7.ensures

@@ -1,12 +1,14 @@
 use Rattle.drive.proofs.Brought.{moved-size}
-use Rattle.std.proofs.Common.{◌∙◌, subst, ◌∷◌}
+use Rattle.std.proofs.Common.{◌∙◌, sym, subst, ◌∷◌, List, OnOk}
 use Rattle.trusted_cmds.specs.declared.block.SidBlock.{SidBlock}
 use Rattle.history.specs.Events.{BlockedSid, did}
 use Rattle.history.specs.Facts.{facts}
-use Rattle.history.specs.History.{log}
+use Rattle.history.specs.Opening.{Origin}
+use Rattle.history.specs.History.{Act, log}
 use Rattle.drive.specs.declared.decision.Decision.{Decision}
-use Rattle.drive.specs.Decision.{IsDue}
-use Rattle.drive.specs.State.{KeepsDrive}
+use Rattle.drive.specs.Decision.{IsDue, decision_event}
+use Rattle.drive.specs.State.{KeepsDrive, Agrees}
+use Rattle.drive.specs.Answers.{IsDoneAndAnswered}
 use Rattle.drive.proofs.Acting.{aborts-done, fails-done, holds-done, moves-done, executes-done, restarts-done, blocks-done, read-as}
 use Rattle.drive.proofs.drive.Drive.act.Goals as goal
 
@@ -42,7 +44,7 @@ returns-in_ok-bytes-in-Executes-clause-done c = λ o acts k.
     let e = c.set_served-in-Executes.ensures in
     let x = c.in_ok-bytes-in-Executes.ensures in
     let due = subst (λ (x : Decision). IsDue c.args.self.now c.args.h.now x) c.in-Executes.is c.requires.due in
-    executes-done (facts o (log o acts)) c.args.h.now c.execute.new.self o (log o acts) c.args.payload.now c.in-Executes.command c.args.decision c.set_served-in-Executes.new.self c.in-Executes.is (read-as c.args.self.now o (log o acts) c.args.h.now _ k due.0, due.1)
+    executes-done (facts o (log o acts)) c.args.h.now c.execute.new.self o (log o acts) c.args.payload.now c.in-Executes.command c.args.decision c.set_served-in-Executes.new.self c.in-Executes.is (read-as c.args.self.now o (log o acts) c.args.h.now _ k due.0, due.1.0)
     (record { status_is = e.status; error_is = e.error; held_is = e.held; fises_are = e.fises ∙ c.served_form.ensures; bytes_are = e.bytes ∙ x.data o acts k; denied_is = e.denied ∙ x.denied o acts k; rule_is = e.rule ∙ x.rule o acts k }) (x.kept o acts k)
 
 pub returns-in-Restarts-clause-done : goal.returns-in-Restarts-clause-done
@@ -59,6 +61,12 @@ returns-in-Blocks-clause-done c = λ o acts k.
     let kept = subst (λ (b : SidBlock). KeepsDrive c.block_sid.new.self o (did (BlockedSid b) ∷ log o acts)) c.asked.ensures (c.block_sid.ensures o (log o acts) k) in
     blocks-done (facts o (log o acts)) c.args.h.now c.block_sid.new.self o (log o acts) c.args.payload.now c.args.self.now.tper.store.config.profile c.in-Blocks.command c.args.decision c.set_done-in-Blocks.new.self c.in-Blocks.is (read-as c.args.self.now o (log o acts) c.args.h.now _ k due.0, due.1)
     (record { status_is = e.status; error_is = e.error; held_is = e.held; fises_are = e.fises ∙ c.served_form-in-Blocks.ensures; bytes_are = e.bytes; denied_is = e.denied; rule_is = e.rule }) kept
+
+pub returns-in-AsksStack-clause-done : goal.returns-in-AsksStack-clause-done
+returns-in-AsksStack-clause-done c =
+    subst (λ (x : Decision). OnOk c.ask_stack.result ((o : Origin) (acts : List Act) → Agrees c.args.self.now o acts
+    → IsDoneAndAnswered (facts o (log o acts)) c.args.h.now (decision_event (facts o (log o acts)) c.args.payload.now x) c.ask_stack.new.self o (log o acts) c.ask_stack.new.answer))
+    (sym c.in-AsksStack.is) c.ask_stack.ensures.done
 
 pub carry_out-requires-clause-length : goal.carry_out-requires-clause-length
 carry_out-requires-clause-length c =

@@ -8,7 +8,7 @@ use Rattle.history.specs.Decisions.{asks_certificates}
 use Rattle.history.specs.Tcg.{data_of, receive_data}
 use Rattle.history.specs.Facts.{Facts, facts}
 use Rattle.history.specs.History.{log}
-use Rattle.drive.specs.Decision.{executed}
+use Rattle.drive.specs.Decision.{executed, is_for_stack}
 use Rattle.drive.specs.State.{KeepsDrive}
 use Rattle.drive.proofs.Keeping.{seen-is, nothing-keeps, mended-keeps, chosen-keeps}
 use Rattle.trusted_cmds.specs.Commands.{is_protocol_list}
@@ -26,6 +26,7 @@ returns-in_ok-bytes-in-Receive-clause-data c = λ o acts k.
     (c.in_ok-bytes-in-Receive.ensures.data o acts k ∙ ap (λ (n : ℕ). receive_data (facts o (log o acts)) c.in-Receive.sp_specific (sector_size * n)) c.from-room.ensures
     ∙ received-data c.args.self.now o (log o acts) c.in-Receive.protocol c.in-Receive.sp_specific c.in-Receive.blocks c.in-Receive.dma
     (ap is_protocol_list (sym c.in-Receive.is) ∙ sym c.is_protocol_list.ensures ∙ c.if-is_protocol_list.false)
+    (ap (is_for_stack c.args.self.now.tper.store.config.profile) (sym c.in-Receive.is) ∙ c.requires.apart)
     (ap (asks_certificates c.args.self.now.tper.store.config.profile) (sym c.in-Receive.is) ∙ sym c.asks_certificates.ensures ∙ c.if-asks_certificates.false) k)
 
 pub returns-in_ok-identify-in-Identify-clause-kept : goal.returns-in_ok-identify-in-Identify-clause-kept
@@ -79,4 +80,5 @@ returns-then-asks_certificates-clause-data c = λ o acts k.
     (c.in_ok-told-in-Receive.ensures ∙ ap (λ (n : ℕ). sized (sector_size * n) certificate_data) c.from-room.ensures
     ∙ certificates-data c.args.self.now o (log o acts) c.in-Receive.protocol c.in-Receive.sp_specific c.in-Receive.blocks c.in-Receive.dma
     (ap is_protocol_list (sym c.in-Receive.is) ∙ sym c.is_protocol_list.ensures ∙ c.if-is_protocol_list.false)
+    (ap (is_for_stack c.args.self.now.tper.store.config.profile) (sym c.in-Receive.is) ∙ c.requires.apart)
     (ap (asks_certificates c.args.self.now.tper.store.config.profile) (sym c.in-Receive.is) ∙ sym c.asks_certificates.ensures ∙ c.if-asks_certificates.true) k)

@@ -1,7 +1,6 @@
 use Rattle.std.proofs.Common.{◌≡◌, ℕ, if◌then◌else◌, sym, subst, refl}
 use Rattle.shadow_mbr.specs.Stored.{StoredSectors, sector_at, zeros}
 use Rattle.shadow_mbr.specs.Erasure.{is_erased}
-use Rattle.compacket.specs.Frames.{reading}
 use Rattle.history.specs.History.{log}
 use Rattle.tper.specs.Tper.{Tper, Keeps}
 use Rattle.drive.specs.State.{DriveState, KeepsDrive}
@@ -18,5 +17,5 @@ returns-clause-kept c = λ o acts k.
     let erased : (x : ℕ) → sector_at c.erase.new.self x ≡ if is_erased c.in_ok-sent.sent.erases x then zeros else sector_at c.self.inside.media.value x =
     subst (λ (m : StoredSectors). (x : ℕ) → sector_at c.erase.new.self x ≡ if is_erased c.in_ok-sent.sent.erases x then zeros else sector_at m x)
     c.deref_mut-2.ensures.value c.erase.ensures.sectors in
-    send-keeps old new o acts c.args.com_id (reading c.args.payload.now) c.in_ok-sent.sent
+    send-keeps old new o acts c.args.com_id c.args.payload.now c.in_ok-sent.sent
     (c.in_ok-sent.ensures.kept o acts lent) (c.in_ok-sent.ensures.answer o acts lent) refl refl erased kept

@@ -14,10 +14,12 @@ returns-in_default-clause-fault c = (
     model = text_or new_model (option_map (λ s. s.now) c.args.texts.now.model);
     psid = c.in-Ok-label_in.psid.items;
     datastore = c.in_ok-datastore.datastore;
+    seed = c.in_ok-seed.seed;
   },
   record {
     sectors_written = search rules;
     shadow_written = search rules;
+    seed_written = search rules;
     msid_written = search rules;
     profile_written = search rules;
     serial_written = refl;
@@ -43,10 +45,12 @@ returns-in_default-with_names-clause-fault c = (
     model = text_or new_model (option_map (λ s. s.now) c.args.texts.now.model);
     psid = c.in-Ok-label_in.psid.items;
     datastore = c.in_ok-datastore.datastore;
+    seed = c.in_ok-seed.seed;
   },
   record {
     sectors_written = search rules;
     shadow_written = search rules;
+    seed_written = search rules;
     msid_written = search rules;
     profile_written = search rules;
     serial_written = refl;
@@ -69,10 +73,12 @@ returns-in_default-with_psid-clause-fault c = (
     model = text_or new_model (option_map (λ s. s.now) c.args.texts.now.model);
     psid = c.in-Ok-label_in.psid.items;
     datastore = c.in_ok-datastore.datastore;
+    seed = c.in_ok-seed.seed;
   },
   record {
     sectors_written = search rules;
     shadow_written = search rules;
+    seed_written = search rules;
     msid_written = search rules;
     profile_written = search rules;
     serial_written = refl;
@@ -97,10 +103,12 @@ returns-clause-fault c = (
     model = text_or new_model (option_map (λ s. s.now) c.args.texts.now.model);
     psid = c.in-Ok-label_in.psid.items;
     datastore = c.in_ok-datastore.datastore;
+    seed = c.in_ok-seed.seed;
   },
   record {
     sectors_written = search rules;
     shadow_written = search rules;
+    seed_written = search rules;
     msid_written = search rules;
     profile_written = search rules;
     serial_written = refl;
