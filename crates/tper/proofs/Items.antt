@@ -50,7 +50,7 @@ use Rattle.audit.specs.declared.rules.rule.Rule.TheVariants.{NoneOpen}
 use Rattle.sessions.specs.declared.beside.HostLimits.{HostLimits}
 use Rattle.sessions.specs.declared.beside.Beside.{Beside}
 use Rattle.sessions.specs.Beside.{channel_of}
-use Rattle.sessions.specs.Properties.{host_told, told_deed, properties_deed}
+use Rattle.sessions.specs.Properties.{properties_message, host_told, told_deed, properties_deed}
 
 -- an answer that is this message can be carried, as the message can
 pub carried-as : (said : Message) (m : Message) → said ≡ m → is_carried m ≡ true → is_carried said ≡ true
