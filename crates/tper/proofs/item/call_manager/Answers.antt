@@ -15,7 +15,7 @@ pub returns-then-eq-2-clause-met : goal.returns-then-eq-2-clause-met
 returns-then-eq-2-clause-met c =
     let object : uid_of c.args.call.now.object ≡ session_manager = search rules in
     let method : uid_of c.args.call.now.method ≡ properties = search rules in
-    properties-met c.args.store.now c.args.sessions.now c.properties-reply.new.self c.args.com_id _ _ c.args.call.now _ _ object method
+    properties-met c.args.store.now c.args.sessions.now c.properties.new.self c.args.com_id _ _ c.args.call.now _ _ object method
     c.in_ok-reply.ensures.answer c.in_ok-reply.ensures.kept c.answer.ensures.erases
 
 pub returns-then-eq-4-clause-met : goal.returns-then-eq-4-clause-met
