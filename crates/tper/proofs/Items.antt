@@ -117,14 +117,14 @@ told-met : (s : Stored) (l : Live) (com_id : ℕ) (said : Message) (x : Option H
 told-met s l com_id said None = record { answer = refl; denied = refl; rule = refl; erases = refl; store = refl; sessions = record { next = refl; at = λ n. refl }; beside = refl }
 told-met s l com_id said (Some limits) = record { answer = refl; denied = refl; rule = refl; erases = refl; store = refl; sessions = record { next = refl; at = λ n. refl }; beside = refl }
 
-pub properties-met : (s : Stored) (l m : Live) (com_id : ℕ) (object method : Uid) (call : Call) (said : Message) (erasure : Erasure)
+pub properties-met : (s : Stored) (l m : Live) (com_id : ℕ) (object method : Uid) (call : Call) (said : Message) (why : Option Why) (rule : Option Rule) (erasure : Erasure)
     → object ≡ session_manager → method ≡ properties
     → said ≡ properties_message s.config.profile (channel_of l.beside com_id).limits (map tree call.args.items)
     → m ≡ record l { beside = beside_after (properties_deed s.config.profile com_id (channel_of l.beside com_id).limits (map tree call.args.items)) l.beside }
-    → erasure ≡ no_sectors
+    → why ≡ None → rule ≡ None → erasure ≡ no_sectors
     → (o : Origin) (past : List Event) → KeepsStore s o past → KeepsSessions l past → l.beside ≡ beside past
-    → Meets (called_manager (facts o past) com_id object method (values_of (trees call.args.items))) said None None erasure s s l m
-properties-met s l m com_id object method call said erasure is-object is-method answered kept none o past ks kl here =
+    → Meets (called_manager (facts o past) com_id object method (values_of (trees call.args.items))) said why rule erasure s s l m
+properties-met s l m com_id object method call said why rule erasure is-object is-method answered kept reasons ruled none o past ks kl here =
     let args = map tree call.args.items in
     let limits = (channel_of l.beside com_id).limits in
     let base = told-met s l com_id (properties_message s.config.profile limits args) (host_told s.config.profile limits args) in
@@ -134,7 +134,9 @@ properties-met s l m com_id object method call said erasure is-object is-method 
     (ap (λ (c : Config). properties_with c.profile com_id limits args) ks.config ∙ ap (λ (b : Beside). properties_with o.tables.config.profile com_id (channel_of b com_id).limits args) here) by-live in
     let by-call = subst (λ (x : Outcome). Meets x said None None no_sectors s s l m) (is-properties (facts o past) com_id object method args is-object is-method) by-facts in
     let by-args = subst (λ (x : List Tree). Meets (called_manager (facts o past) com_id object method x) said None None no_sectors s s l m) (sym (values_trees call.args.items)) by-call in
-    subst (λ (x : Erasure). Meets (called_manager (facts o past) com_id object method (values_of (trees call.args.items))) said None None x s s l m) (sym none) by-args
+    let by-reason = subst (λ (x : Option Why). Meets (called_manager (facts o past) com_id object method (values_of (trees call.args.items))) said x None no_sectors s s l m) (sym reasons) by-args in
+    let by-rule = subst (λ (x : Option Rule). Meets (called_manager (facts o past) com_id object method (values_of (trees call.args.items))) said why x no_sectors s s l m) (sym ruled) by-reason in
+    subst (λ (x : Erasure). Meets (called_manager (facts o past) com_id object method (values_of (trees call.args.items))) said why rule x s s l m) (sym none) by-rule
 
 -- ---- what was read
 

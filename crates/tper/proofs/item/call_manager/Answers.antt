@@ -23,10 +23,10 @@ returns-then-eq-2-clause-met c =
     let live = c.args.sessions.now in
     let limits = (channel_of live.beside c.args.com_id).limits in
     let profile : c.profile-profile.result ≡ c.args.store.now.config.profile = search rules in
-    properties-met c.args.store.now live c.properties.new.self c.args.com_id _ _ c.args.call.now _ _ object method
-    (c.in_ok-reply.ensures.answer ∙ ap (λ (p : Profile). properties_message p limits args) profile)
+    properties-met c.args.store.now live c.properties.new.self c.args.com_id _ _ c.args.call.now _ _ _ _ object method
+    (c.answer.ensures.reply ∙ c.in_ok-reply.ensures.answer ∙ ap (λ (p : Profile). properties_message p limits args) profile)
     (c.in_ok-reply.ensures.kept ∙ ap (λ (p : Profile). record live { beside = beside_after (properties_deed p c.args.com_id limits args) live.beside }) profile)
-    c.answer.ensures.erases
+    c.answer.ensures.denied c.answer.ensures.rule c.answer.ensures.erases
 
 pub returns-then-eq-4-clause-met : goal.returns-then-eq-4-clause-met
 returns-then-eq-4-clause-met c =
