@@ -19,7 +19,7 @@ use Rattle.audit.specs.declared.reason.AttemptFailure.{AttemptFailure}
 use Rattle.audit.specs.declared.reason.Why.{Why}
 use Rattle.tcg_tokens.specs.declared.error.TokenError.{TokenError}
 use Rattle.tcg_tokens.specs.Message.{Message, call, reply, end_session, begin, end}
-use Rattle.tcg_tokens.specs.Tree.{Tree, Trees}
+use Rattle.tcg_tokens.specs.Tree.{Tree, Trees, bytes}
 use Rattle.history.specs.Opening.{Origin}
 use Rattle.sessions.specs.Deeds.{Sets, Begun, Setting, cells_set, bytes_set, SessionDeed, Unchanged, Started, Tried, Changed, Began, Committed, Aborted, Ended, Activated, Reverted, Erased, Drew, HostTold, StackReset, StackTold, Outcome, says, refuses as refuses_item}
 use Rattle.sp_cells.specs.ColumnNames.{pin_column}
@@ -482,7 +482,7 @@ living-on sp (InSession d r) s h = lives-on sp d s h
 living-on sp (WasReset kind) s h = cc
 living-on sp Nothing s h = cc
 living-on sp (OfQueue d) s h = cc
-living-on sp (Wrote lba bytes) s h = cc
+living-on sp (Wrote lba written) s h = cc
 living-on sp (Took c) s h = cc
 living-on sp (BlockedSid block) s h = cc
 living-on sp (Chose feature) s h = cc

@@ -16,10 +16,10 @@ use Rattle.trusted_cmds.specs.Commands.{fault_of, read_unless}
 use Rattle.locking.specs.declared.ranges.Verdict.{Verdict}
 use Rattle.locking.specs.declared.ranges.Verdict.TheVariants.{Serve, Shadow, Denied}
 use Rattle.device_data.specs.declared.log_page.Failure.{Failure}
-use Rattle.history.specs.Events.{HeldCommand, Held, Completed, CompletedWrite, QueueFailed, QueueMended, QueueEnded, Deed, Nothing, InSession, OfQueue, Wrote, Took, BlockedSid, Chose, WasReset, Event, did}
+use Rattle.history.specs.Events.{HeldCommand, Held, Completed, CompletedWrite, QueueFailed, QueueMended, QueueEnded, Deed, Nothing, InSession, OfQueue, Wrote, Took, BlockedSid, Chose, WasReset, Event, did, Silent}
 use Rattle.history.specs.Readers.{holding, held}
 use Rattle.history.specs.Facts.{Facts, facts}
-use Rattle.history.specs.Decisions.{not_found, aborted, fails, refuses, fails_queue, on_drive, ranges_in_force, verdict_on, queued_by, admitted, unqueued_by, is_trusted, is_session_com_id, discovery_com_id, received, while_failed, is_busy, completed_by, completed, resets, unqueued_of, known_of, commanded_of, is_received, unreceived}
+use Rattle.history.specs.Decisions.{not_found, aborted, fails, refuses, fails_queue, on_drive, ranges_in_force, verdict_on, queued_by, admitted, unqueued_by, is_trusted, is_session_com_id, discovery_com_id, received, while_failed, is_busy, completed_by, completed, resets, unqueued_of, known_of, commanded_of, is_received, unreceived, asks_stack, receive_other}
 use Rattle.history.specs.Items.{Items}
 use Rattle.history.specs.Quiet.{IsQuiet, ReadsTags}
 use Rattle.history.specs.Answers.{is_holding}
@@ -33,6 +33,7 @@ use Rattle.history.proofs.QuietProofs.{quiet-none}
 use Rattle.history.proofs.TransferProofs.{verdict_law}
 use Rattle.sp_cells.specs.Resets.{programmatic}
 use Rattle.audit.specs.declared.rules.rule.Rule.TheVariants.{NoCommand, Unreadable, Mixed, BeyondDrive}
+use Rattle.sessions.specs.Deeds.{StackTold}
 
 clash : {b : Bool} → b ≡ true → b ≡ false → ⊥
 clash h g = absurd (true-false (sym h ∙ g))
@@ -87,7 +88,7 @@ unqueued-none items still f payload (WriteDma l n) = none-if (on_drive f l n) (u
 unqueued-none items still f payload (Send p c b d) =
     none-if (resets f.rows (Send p c b d)) (did (WasReset programmatic)) (items.sends f p c b payload) refl
     (quiet-none (items.sends f p c b payload).deed (still f p c b payload))
-unqueued-none items still f payload (Receive p c b d) = none-if (is_received f p c b) (received c b (f.waiting c)) (refuses (unreceived p b)) (received-none c b (f.waiting c)) refl
+unqueued-none items still f payload (Receive p c b d) = none-if (asks_stack f.config.profile p c b) (did (InSession (StackTold c) Silent)) (receive_other f p c b) refl (none-if (is_received f p c b) (received c b (f.waiting c)) (refuses (unreceived p b)) (received-none c b (f.waiting c)) refl)
 unqueued-none items still f payload _ = refl
 
 -- an act that holds a command

@@ -21,6 +21,7 @@ use Rattle.methods.specs.Settings.{cells_for}
 use Rattle.history.specs.Opening.{Origin}
 use Rattle.basics.specs.declared.profile.Profile.TheVariants.{Base}
 use Rattle.sessions.specs.Properties.{properties_message}
+use Rattle.sessions.specs.Beside.{least_limits}
 use Rattle.history.specs.Readers.{waiting}
 use Rattle.history.specs.Facts.{facts}
 use Rattle.history.specs.Decisions.{any_below}
@@ -92,7 +93,7 @@ response_length : waiting_length (waiting (log activated (reverse long)) 0x1000)
 unfolding any_range_below admin_sps admin_authorities locking_authorities admin_pins locking_pins locking_ranges locking_mbr_controls admin_aces authority_aces pin_aces range_get_aces range_aces mbr_aces this_sp_grants owner_grants authority_grants fixed_ace_gets user_ace_grants read_locked_ace_grants write_locked_ace_grants done_ace_grants pin_grants range_get_ace_grants range_get_grants range_set_grants mbr_grants first_lexeme expect number_at uid_at values_up_to list_with list_value_with named_with value_after_token list_at status_at call_at reply_at message_at message_in number_spelling bytes_spelling any_below ranges_in verdict_of is_range listed_among cells_for zeros sectors_from authorities_of_locking any_to signed_in get_534 long waiting_length
 response_length = refl
 
-row_properties : length (said (properties_message Base [])) ≡ 138
+row_properties : length (said (properties_message Base least_limits [])) ≡ 138
 unfolding any_range_below admin_sps admin_authorities locking_authorities admin_pins locking_pins locking_ranges locking_mbr_controls admin_aces authority_aces pin_aces range_get_aces range_aces mbr_aces this_sp_grants owner_grants authority_grants fixed_ace_gets user_ace_grants read_locked_ace_grants write_locked_ace_grants done_ace_grants pin_grants range_get_ace_grants range_get_grants range_set_grants mbr_grants first_lexeme expect number_at uid_at values_up_to list_with list_value_with named_with value_after_token list_at status_at call_at reply_at message_at message_in number_spelling bytes_spelling any_below ranges_in verdict_of is_range listed_among cells_for zeros sectors_from authorities_of_locking any_to
 row_properties = refl
 

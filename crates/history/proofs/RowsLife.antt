@@ -29,6 +29,7 @@ use Rattle.history.specs.Decisions.{any_below}
 use Rattle.device_data.specs.ErrorLog.{sized}
 use Rattle.history.specs.History.{Act, Accept, log}
 use Rattle.history.proofs.Scripts.{msid, new_drive, fis, dwrite, send, receive, tell, call_of, start_as, start_anybody, in_it, replies, fails_with, said}
+use Rattle.sessions.specs.Beside.{least_limits}
 
 script : List Act
 script =
@@ -71,6 +72,6 @@ row_strangers_taken = refl
 -- Malformed tokens fail, in a session and to the session manager; Properties answers both shapes.
 row_malformed : replies new_drive (tell 0x1000 0 0 (start_anybody admin_sp) ++ Accept (fis 0x5f 1 0x100000 1) (sized 512 (frame_bytes 0x1000 (record { tsn = 0x1000; hsn = 1 }) (0xf0 ∷ 0xf0 ∷ 0xf1 ∷ [])))
     ∷ receive 0x1000 2 ∷ tell 0x1000 0 0 end_session ++ tell 0x1000 0 0 (call_of session_manager properties [])) ≡
-    said (sync_message 1 0x1000 0) ∷ said (refusal_of 0x3f) ∷ said (refusal_of 0x3f) ∷ said (properties_message Base []) ∷ []
+    said (sync_message 1 0x1000 0) ∷ said (refusal_of 0x3f) ∷ said (refusal_of 0x3f) ∷ said (properties_message Base least_limits []) ∷ []
 unfolding admin_sps admin_authorities locking_authorities admin_pins locking_pins locking_ranges locking_mbr_controls admin_aces authority_aces pin_aces range_get_aces range_aces mbr_aces this_sp_grants owner_grants authority_grants fixed_ace_gets user_ace_grants read_locked_ace_grants write_locked_ace_grants done_ace_grants pin_grants range_get_ace_grants range_get_grants range_set_grants mbr_grants first_lexeme expect number_at uid_at values_up_to list_with list_value_with named_with value_after_token list_at status_at call_at reply_at message_at message_in number_spelling bytes_spelling any_below ranges_in verdict_of is_range listed_among cells_for zeros sectors_from authorities_of_locking any_to
 row_malformed = refl

@@ -20,14 +20,14 @@ use Rattle.trusted_cmds.specs.declared.command.Command.TheVariants.{ReadQueued, 
 use Rattle.trusted_cmds.specs.declared.command.CommandError.{CommandError}
 use Rattle.locking.specs.declared.ranges.Verdict.{Verdict}
 use Rattle.locking.specs.declared.ranges.Verdict.TheVariants.{Serve, Shadow, Denied}
-use Rattle.sessions.specs.Deeds.{Begun, SessionDeed, Reverted}
+use Rattle.sessions.specs.Deeds.{Begun, SessionDeed, Reverted, StackTold}
 use Rattle.trusted_cmds.specs.BlockSid.{is_block_sid, block_asked, is_blocked}
 use Rattle.device_data.specs.Discovery.{has_owner}
 use Rattle.history.specs.Opening.{Origin}
-use Rattle.history.specs.Events.{did, HeldCommand, Deed, Nothing, InSession, Wrote, Event, or_else, OfQueue, Took, BlockedSid, Chose, WasReset, latest, CompletedWrite, Completed, Held, QueueFailed, QueueMended, QueueEnded, ignores}
+use Rattle.history.specs.Events.{did, HeldCommand, Deed, Nothing, InSession, Wrote, Event, or_else, OfQueue, Took, BlockedSid, Chose, WasReset, latest, CompletedWrite, Completed, Held, QueueFailed, QueueMended, QueueEnded, ignores, Silent}
 use Rattle.history.specs.Facts.{Facts, facts, session_named}
-use Rattle.history.specs.Decisions.{aborted, not_found, fails, refuses, fails_queue, on_drive, verdict_on, queued_by, queued_transfer, admitted, unqueued_by, unqueued_transfer, is_trusted, is_session_com_id, discovery_com_id, received, while_failed, is_busy, completed_by, completed, resets, is_received, unreceived}
-use Rattle.history.specs.Tcg.{answers, to_manager, in_session, item_in, breaks_off, broken_off, is_discarded, manager_event, is_manager, to_session, framed, sent, unqueued, known, commanded, tcg, command_read, blocks_sid, unsent, is_sent, is_free_for}
+use Rattle.history.specs.Decisions.{aborted, not_found, fails, refuses, fails_queue, on_drive, verdict_on, queued_by, queued_transfer, admitted, unqueued_by, unqueued_transfer, is_trusted, is_session_com_id, discovery_com_id, received, while_failed, is_busy, completed_by, completed, resets, is_received, unreceived, asks_stack, receive_other}
+use Rattle.history.specs.Tcg.{answers, to_manager, in_session, item_in, breaks_off, broken_off, is_discarded, manager_event, is_manager, to_session, framed, sent, unqueued, known, commanded, tcg, command_read, blocks_sid, unsent, is_sent, is_free_for, sent_by, broken_of, unframed, unframed_in, stack_sent, stack_reset, stack_kept}
 use Rattle.history.specs.History.{Act, Accept, Complete, Reset, SoftwareReset, event_by, log}
 use Rattle.shadow_mbr.specs.Erasure.{is_erased}
 use Rattle.sessions.specs.Deeds.{erased_by}
@@ -43,7 +43,9 @@ use Rattle.history.proofs.HeldProofs.{held_law}
 use Rattle.history.proofs.WriteProofs.{write_law}
 use Rattle.history.proofs.Payloads.{payload-of-command}
 use Rattle.sp_cells.specs.Resets.{programmatic}
-use Rattle.audit.specs.declared.rules.rule.Rule.TheVariants.{NoCommand, Unreadable, Mixed, BeyondDrive, SidKept, NoFrame, Discarded}
+use Rattle.audit.specs.declared.rules.rule.Rule.TheVariants.{NoCommand, Unreadable, Mixed, BeyondDrive, SidKept, NoFrame, Discarded, BrokenOff}
+use Rattle.compacket.specs.declared.session.Named.{Named}
+use Rattle.device_data.specs.StackReset.{is_stack_reset}
 
 -- no accepted command completes a write
 abbrev quiet : Deed → Bool
@@ -56,15 +58,23 @@ either false e g h k = k
 
 to_session-quiet : (f : Facts) (com_id : ℕ) (named : Session) (payload : List ℕ) (s : Option Begun) → is_session_com_id com_id ≡ true → quiet (to_session f com_id named payload s).deed ≡ true
 to_session-quiet f com_id named payload None h = refl
-to_session-quiet f com_id named payload (Some s) h = either (breaks_off f.config.profile (item_in f.config.profile payload)) (broken_off s.sp) (answers com_id named (in_session f s (item_in f.config.profile payload))) (λ is. refl) refl
+to_session-quiet f com_id named payload (Some s) h = either (breaks_off f.config.profile (item_in f.config.profile payload)) (broken_off BrokenOff s.sp) (answers com_id named (in_session f s (item_in f.config.profile payload))) (λ is. refl) refl
 
 framed-quiet : (f : Facts) (com_id : ℕ) (frame : Frame) → is_session_com_id com_id ≡ true → quiet (framed f com_id frame).deed ≡ true
 framed-quiet f com_id frame h =
     either (is_manager frame.session) (manager_event f com_id frame.session (message_in frame.payload)) _ (λ is. either (is_discarded f.config.profile (message_in frame.payload)) (ignores Discarded) (answers com_id frame.session (to_manager f com_id (message_in frame.payload))) (λ of. refl) refl) (to_session-quiet f com_id frame.session frame.payload (session_named f com_id frame.session) h)
 
-sent-quiet : (f : Facts) (com_id : ℕ) (r : Result Frame FrameError) → is_session_com_id com_id ≡ true → quiet (sent f com_id r).deed ≡ true
-sent-quiet f com_id (Err e) h = refl
-sent-quiet f com_id (Ok frame) h = either (frame.com_id == com_id) (framed f com_id frame) (ignores NoFrame) (λ is. framed-quiet f com_id frame h) refl
+unframed-quiet : (f : Facts) (com_id : ℕ) (broken : Option Named) → quiet (unframed f com_id broken).deed ≡ true
+unframed-quiet f com_id None = refl
+unframed-quiet f com_id (Some named) = either (named.com_id == com_id) (unframed_in (session_named f com_id named.session)) (ignores NoFrame) (λ is. by_session (session_named f com_id named.session)) refl
+  where
+    by_session : (x : Option Begun) → quiet (unframed_in x).deed ≡ true
+    by_session None = refl
+    by_session (Some s) = refl
+
+sent-quiet : (f : Facts) (com_id : ℕ) (broken : Option Named) (r : Result Frame FrameError) → is_session_com_id com_id ≡ true → quiet (sent_by f com_id broken r).deed ≡ true
+sent-quiet f com_id broken (Err e) h = unframed-quiet f com_id broken
+sent-quiet f com_id broken (Ok frame) h = either (frame.com_id == com_id) (framed f com_id frame) (ignores NoFrame) (λ is. framed-quiet f com_id frame h) refl
 
 middle : (a b c : Bool) → (a && b && c) ≡ true → b ≡ true
 middle true true c h = refl
@@ -90,9 +100,10 @@ unqueued-quiet f payload (Send protocol com_id blocks dma) =
     either (resets f.rows (Send protocol com_id blocks dma)) (did (WasReset programmatic)) _ (λ is. refl)
     (either (is_block_sid f.config.profile (Send protocol com_id blocks true)) (blocks_sid f payload) _
     (λ is. either (has_owner f.rows || is_blocked f.beside.block) (refuses SidKept) (did (BlockedSid (block_asked payload))) (λ is. refl) refl)
+    (either (asks_stack f.config.profile protocol com_id blocks) (stack_sent f com_id payload) _ (λ is. either (is_stack_reset com_id payload) (stack_reset f com_id) (stack_kept com_id) (λ is. refl) refl)
     (either (is_sent f protocol com_id blocks) _ (refuses (unsent (is_some (f.waiting com_id)) protocol com_id blocks))
-    (λ is. sent-quiet f com_id (frame_in payload) (middle (is_trusted protocol blocks) (is_session_com_id com_id) (is_free_for f com_id blocks) is)) refl))
-unqueued-quiet f payload (Receive protocol com_id blocks dma) = either (is_received f protocol com_id blocks) _ (refuses (unreceived protocol blocks)) (λ is. received-quiet com_id blocks (f.waiting com_id)) refl
+    (λ is. sent-quiet f com_id (broken_of f.config.profile payload) (frame_in payload) (middle (is_trusted protocol blocks) (is_session_com_id com_id) (is_free_for f com_id blocks) is)) refl)))
+unqueued-quiet f payload (Receive protocol com_id blocks dma) = either (asks_stack f.config.profile protocol com_id blocks) (did (InSession (StackTold com_id) Silent)) (receive_other f protocol com_id blocks) (λ is. refl) (either (is_received f protocol com_id blocks) _ (refuses (unreceived protocol blocks)) (λ is. received-quiet com_id blocks (f.waiting com_id)) refl)
 unqueued-quiet f payload _ = refl
 
 queued_by-quiet : (h : RegH2d) (tag : ℕ) (c : Command) (v : Verdict) → quiet (queued_by h tag c v).deed ≡ true

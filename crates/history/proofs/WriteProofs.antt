@@ -12,9 +12,9 @@ use Rattle.trusted_cmds.specs.declared.command.CommandError.{CommandError}
 use Rattle.locking.specs.declared.ranges.Verdict.{Verdict}
 use Rattle.locking.specs.declared.ranges.Verdict.TheVariants.{Serve, Shadow, Denied}
 use Rattle.device_data.specs.declared.log_page.Failure.{Failure}
-use Rattle.history.specs.Events.{HeldCommand, Deed, Nothing, InSession, OfQueue, Wrote, Took, BlockedSid, Chose, Event, did, WasReset}
+use Rattle.history.specs.Events.{HeldCommand, Deed, Nothing, InSession, OfQueue, Wrote, Took, BlockedSid, Chose, Event, did, WasReset, Silent}
 use Rattle.history.specs.Facts.{Facts}
-use Rattle.history.specs.Decisions.{not_found, aborted, fails, refuses, fails_queue, on_drive, ranges_in_force, verdict_on, queued_by, admitted, unqueued_by, is_trusted, is_session_com_id, discovery_com_id, received, while_failed, is_busy, completed_by, completed, resets, unqueued_of, known_of, commanded_of, is_received, unreceived}
+use Rattle.history.specs.Decisions.{not_found, aborted, fails, refuses, fails_queue, on_drive, ranges_in_force, verdict_on, queued_by, admitted, unqueued_by, is_trusted, is_session_com_id, discovery_com_id, received, while_failed, is_busy, completed_by, completed, resets, unqueued_of, known_of, commanded_of, is_received, unreceived, asks_stack, receive_other}
 use Rattle.history.specs.Items.{Items}
 use Rattle.history.specs.Quiet.{is_quiet, IsQuiet}
 use Rattle.history.specs.History.{Act, Accept, Complete, Reset, SoftwareReset, event_in}
@@ -23,6 +23,7 @@ use Rattle.history.specs.TransferLaws.{IsPermitted, is_denied, Writes, WriteLaw}
 use Rattle.history.proofs.TransferProofs.{verdict_law}
 use Rattle.sp_cells.specs.Resets.{programmatic}
 use Rattle.audit.specs.declared.rules.rule.Rule.TheVariants.{NoCommand, Unreadable, Mixed, BeyondDrive}
+use Rattle.sessions.specs.Deeds.{StackTold}
 
 abbrev is_write : Deed → Bool
 is_write (Wrote lba bytes) = true
@@ -80,7 +81,7 @@ unqueued-is items still f act lba bytes (ReadDma l n) looked g = absurd (not-wri
 unqueued-is items still f act lba bytes (Send p c b d) looked g =
     absurd (not-write (none-if (resets f.rows (Send p c b d)) (did (WasReset programmatic)) (items.sends f p c b looked.payload) refl
     (quiet-none (items.sends f p c b looked.payload).deed (still f p c b looked.payload))) g)
-unqueued-is items still f act lba bytes (Receive p c b d) looked g = absurd (not-write (none-if (is_received f p c b) (received c b (f.waiting c)) (refuses (unreceived p b)) (received-none c b (f.waiting c)) refl) g)
+unqueued-is items still f act lba bytes (Receive p c b d) looked g = absurd (not-write (none-if (asks_stack f.config.profile p c b) (did (InSession (StackTold c) Silent)) (receive_other f p c b) refl (none-if (is_received f p c b) (received c b (f.waiting c)) (refuses (unreceived p b)) (received-none c b (f.waiting c)) refl)) g)
 unqueued-is items still f act lba bytes (ReadQueued l n) looked g = absurd (not-write refl g)
 unqueued-is items still f act lba bytes (WriteQueued l n) looked g = absurd (not-write refl g)
 unqueued-is items still f act lba bytes Identify looked g = absurd (not-write refl g)

@@ -72,7 +72,7 @@ returns-in-ReadAcl-GetAcl-clause-fulfils c =
     let has : has_ask (kind_of c.args.session.sp c.args.object) c.args.ask.now ≡ true = sym (c.in-Some.ensures.cased ∙ ap (λ k. has_ask k c.args.ask.now) c.kind_of-kind.ensures) in
     let profile : c.profile-profile.result ≡ c.args.store.now.config.profile = search rules in
     judged-as _ _ c.args.session c.get_acl.result _ _ _ _
-    (ap (λ room. acl_told room (acl_at c.profile-profile.result c.args.session.sp c.in-ReadAcl-GetAcl.object c.in-ReadAcl-GetAcl.method)) c.room_of-room-2.ensures
+    (ap (λ room. acl_told room (acl_at c.profile-profile.result c.args.session.sp c.in-ReadAcl-GetAcl.object c.in-ReadAcl-GetAcl.method)) c.room_of-room-in-ReadAcl-GetAcl.ensures
     ∙ ap (λ p. acl_told (session_room c.args.store.now.config.profile c.args.sessions.now c.args.session) (acl_at p c.args.session.sp c.in-ReadAcl-GetAcl.object c.in-ReadAcl-GetAcl.method)) profile
     ∙ asked-is (standing_in c.args.store.now c.args.sessions.now c.args.session) c.args.object c.args.ask.now (GetAcl c.in-ReadAcl-GetAcl.object c.in-ReadAcl-GetAcl.method) has c.in-ReadAcl-GetAcl.is-1)
     (told-in _ c.args.session c.get_acl.result c.args.store.now c.args.sessions.now c.get_acl.ensures.tells)
