@@ -5,7 +5,7 @@ use Rattle.sp_cells.specs.Config.{Config}
 use Rattle.std.proofs.Common.{◌≡◌, ◌==◌, ℕ, true, false, List, Option, None, Some, refl, sym, subst, ◌∙◌, ap, Bool, eqb-true, if◌then◌else◌}
 use Rattle.std.specs.Prelude.{zero, suc, Result, Err, map, option_map, Ok}
 use Rattle.sp_cells.specs.declared.names.Uid.{Uid}
-use Rattle.sp_cells.specs.Names.{session_manager, start_session}
+use Rattle.sp_cells.specs.Names.{session_manager, start_session, properties}
 use Rattle.tcg_tokens.specs.declared.error.TokenError.{TokenError}
 use Rattle.tcg_tokens.specs.declared.error.TokenError.TheVariants.{OutOfMemory}
 use Rattle.tcg_tokens.specs.declared.value.Call.{Call}
@@ -201,11 +201,11 @@ get-carried s t l m session get said h =
 
 -- an answer that changes nothing
 pub unchanged : (x : Message) (said : Answered) (s : Stored) (l : Live) → message said.reply ≡ x → said.denied ≡ None → said.rule ≡ None → said.erases ≡ no_sectors → AnswersAs (says Unchanged x) said s s l l
-unchanged x said s l h k r w = record { answer = h; denied = k; rule = r; erases = w; store = refl; sessions = record { next = refl; at = λ n. refl }; block = refl }
+unchanged x said s l h k r w = record { answer = h; denied = k; rule = r; erases = w; store = refl; sessions = record { next = refl; at = λ n. refl }; beside = refl }
 
 -- an answer of a refusal by a rule, which changes nothing
 pub ruled : (x : Message) (rule : Rule) (said : Answered) (s : Stored) (l : Live) → message said.reply ≡ x → said.denied ≡ None → said.rule ≡ Some rule → said.erases ≡ no_sectors → AnswersAs (refuses_item x rule) said s s l l
-ruled x rule said s l h k r w = record { answer = h; denied = k; rule = r; erases = w; store = refl; sessions = record { next = refl; at = λ n. refl }; block = refl }
+ruled x rule said s l h k r w = record { answer = h; denied = k; rule = r; erases = w; store = refl; sessions = record { next = refl; at = λ n. refl }; beside = refl }
 
 -- ---- the end of a transaction
 
@@ -246,7 +246,7 @@ commits-here o past its number said s t live ks zeroed shown made reply denied r
       erases = erases;
       store = (own.0, own.1, made ∙ ap (λ (n : ℕ). at_part its.sp (part_commit n) s) (sym own.2));
       sessions = record { next = refl; at = λ n. refl };
-      block = refl;
+      beside = refl;
     }))
 
 pub commits : (session : SessionId) (number : ℕ) (said : Answered) (s t : Stored) (live : Live) → number ≡ 0
@@ -274,7 +274,7 @@ aborts-here o past its (suc n) said s t live ks some shown made reply denied rul
       erases = erases;
       store = made;
       sessions = record { next = refl; at = λ n. refl };
-      block = refl;
+      beside = refl;
     })
 
 pub aborts : (session : SessionId) (number : ℕ) (said : Answered) (s t : Stored) (live : Live) → (number ≡ 0 → ⊥)
