@@ -21,7 +21,7 @@ use Rattle.shadow_mbr.specs.Erasure.{no_sectors, all_sectors}
 use Rattle.methods.specs.Effects.{has_ask}
 use Rattle.sp_cells.specs.ByteTables.{bytes_of_table, table_begin}
 use Rattle.methods.specs.Kinds.{kind_of, byte_table_of}
-use Rattle.sessions.specs.Deeds.{Setting, Sets, says, Unchanged, Changed, Activated, Reverted, Erased, Drew, Begun}
+use Rattle.sessions.specs.Deeds.{Setting, Sets, Unchanged, Changed, Activated, Reverted, Erased, Drew, Begun, says}
 use Rattle.methods.specs.Listed.{listed}
 use Rattle.methods.proofs.ListLaws.{list_law}
 use Rattle.sp_cells.specs.Numbers.{key_number}

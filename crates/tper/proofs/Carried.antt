@@ -1,9 +1,9 @@
 -- Each answer can be carried by a response: that to a call, that to a StartSession, and that to Properties.
-use Rattle.std.proofs.Common.{◌≡◌, ℕ, ◌+◌, ◌^◌, ◌<◌, ◌≤◌, Bool, true, false, not, ltb, List, [], ◌∷◌, ◌++◌, length, Option, None, Some, refl, cond, arith, inl, inr, ◌&&◌}
+use Rattle.std.proofs.Common.{◌≡◌, ℕ, ◌+◌, ◌^◌, ◌<◌, ◌≤◌, Bool, true, false, not, ltb, List, [], ◌∷◌, ◌++◌, length, Option, None, Some, refl, subst, cond, arith, inl, inr, ◌&&◌}
 use Rattle.std.specs.Prelude.{◌==◌, ◌-◌, ◌||◌, ◌&&◌, suc, min, max, codes, nat_le, nat_lt, Result, Ok, Err}
 use Rattle.std.specs.Int.{w64, to_be_bytes}
 use Rattle.std.proofs.Math.Nat.{min-le_left, min-le_right, max-le}
-use Rattle.std.proofs.lemmas.Bool.{ltb-true, leb-le, le-leb, lt-ltb}
+use Rattle.std.proofs.lemmas.Bool.{ltb-true, leb-true, le-leb, lt-ltb}
 use Rattle.std.proofs.lemmas.Bool.Decides.{nat_tests}
 use Rattle.std.proofs.lemmas.List.{length-append}
 use Rattle.tcg_tokens.specs.Tree.{Tree, number, bytes, list, trees_of}
@@ -346,7 +346,7 @@ length_told : (profile : Profile) (limits : HostLimits) → length (item_spellin
 length_told profile limits =
     let shape = told_shape (bytes_spelling (to_be_bytes w64 session_manager.0)) (bytes_spelling (to_be_bytes w64 properties.0)) (spellings_of (trees_of (properties_list profile))) (number_spelling 0) (spellings_of (trees_of (sized_properties limits))) (status_spelling (success ∷ 0 ∷ 0 ∷ [])) in
     let states = length_status (number_spelling success) (number_spelling 0) (number_spelling 0) in
-    let listed : length (spellings_of (trees_of (properties_list profile))) ≤ 1000 = leb-le _ _ (length_listed profile) in
+    let listed : length (spellings_of (trees_of (properties_list profile))) ≤ 1000 = leb-true _ _ (length_listed profile) in
     omega (arith, shape, states, listed, length_sized limits, manager_bytes, properties_bytes, zero_number)
 
 limits_short : (profile : Profile) (limits : HostLimits) → nat_le (len_of (properties_call (properties_answer profile (Some limits)) success)) most_response ≡ true

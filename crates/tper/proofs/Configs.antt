@@ -1,5 +1,5 @@
 -- What is sent leaves what the drive was made with: its sectors, its shadow's, and its MSID.
-use Rattle.std.proofs.Common.{◌≡◌, List, Option, Some, None, refl, ◌∙◌, ap}
+use Rattle.std.proofs.Common.{◌≡◌, Bool, true, false, List, Option, Some, None, refl, ◌∙◌, ap}
 use Rattle.tcg_tokens.specs.Tree.{Tree}
 use Rattle.sp_cells.specs.declared.names.Uid.{Uid}
 use Rattle.sp_cells.specs.declared.names.Sp.{Sp}
@@ -11,9 +11,9 @@ use Rattle.sessions.specs.declared.opening.Opening.{Opening}
 use Rattle.sessions.specs.declared.opening.StartVerdict.{StartVerdict}
 use Rattle.sessions.specs.declared.opening.StartVerdict.TheVariants.{Refused, Attempted}
 use Rattle.sessions.specs.Answers.{after_attempt}
-use Rattle.sessions.specs.Deeds.{SessionDeed, Unchanged, Started, Tried, Changed, Sets, Restores, Resets, Began, Committed, Aborted, Ended, Activated, Reverted, Erased}
+use Rattle.sessions.specs.Deeds.{SessionDeed, Unchanged, Started, Tried, Changed, Sets, Restores, Resets, Began, Committed, Aborted, Ended, Activated, Reverted, Erased, Drew, HostTold, StackReset, StackTold}
 use Rattle.sessions.specs.Live.{Live}
-use Rattle.sessions.specs.Made.{StoresAttempt, StoresAs}
+use Rattle.sessions.specs.Made.{StoresAttempt, StoresAs, closed_if, closed_where}
 use Rattle.sessions.specs.Starts.{opening_of, stored_by, stored_with, start_verdict, start_stored}
 
 -- The store has what the other was made with.
@@ -65,6 +65,11 @@ reverts : (sp : Sp) (s : Stored) → Same (reverted sp s) s
 reverts Admin s = refl
 reverts Locking s = refl
 
+-- where a transaction is closed
+closes : (b : Bool) (sp : Sp) (s : Stored) → Same (closed_if b sp s) s
+closes true sp s = part_config sp _ s
+closes false sp s = refl
+
 pub stores-config : (deed : SessionDeed) (s t : Stored) → StoresAs deed s t → t.config ≡ s.config
 stores-config Unchanged s t is = same-as s s t is refl
 stores-config (Started session row) s t is = same-as _ s t is (part_config session.sp _ s)
@@ -79,3 +84,7 @@ stores-config (Ended sp) s t is = same-as _ s t is (part_config sp _ s)
 stores-config (Activated pin) s t is = same-as _ s t is refl
 stores-config (Reverted sp erasure) s t is = same-as _ s t is (reverts sp s)
 stores-config (Erased erasure) s t is = same-as s s t is refl
+stores-config (Drew count) s t is = same-as s s t is refl
+stores-config (HostTold com_id limits) s t is = same-as s s t is refl
+stores-config (StackReset com_id ends) s t is = same-as (closed_where ends s) s t is (closes (ends Locking) Locking (closed_if (ends Admin) Admin s) ∙ closes (ends Admin) Admin s)
+stores-config (StackTold com_id) s t is = same-as s s t is refl

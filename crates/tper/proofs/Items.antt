@@ -5,7 +5,7 @@ use Rattle.sp_cells.specs.Config.{Config}
 use Rattle.std.proofs.Common.{◌≡◌, ◌==◌, ℕ, true, false, List, Option, None, Some, refl, sym, subst, ◌∙◌, ap, Bool, eqb-true, if◌then◌else◌}
 use Rattle.std.specs.Prelude.{zero, suc, Result, Err, map, option_map, Ok}
 use Rattle.sp_cells.specs.declared.names.Uid.{Uid}
-use Rattle.sp_cells.specs.Names.{session_manager, start_session}
+use Rattle.sp_cells.specs.Names.{session_manager, start_session, properties}
 use Rattle.tcg_tokens.specs.declared.error.TokenError.{TokenError}
 use Rattle.tcg_tokens.specs.declared.error.TokenError.TheVariants.{OutOfMemory}
 use Rattle.tcg_tokens.specs.declared.value.Call.{Call}
@@ -50,7 +50,7 @@ use Rattle.audit.specs.declared.rules.rule.Rule.TheVariants.{NoneOpen}
 use Rattle.sessions.specs.declared.beside.HostLimits.{HostLimits}
 use Rattle.sessions.specs.declared.beside.Beside.{Beside}
 use Rattle.sessions.specs.Beside.{channel_of}
-use Rattle.sessions.specs.Properties.{host_told, told_deed, properties_deed}
+use Rattle.sessions.specs.Properties.{properties_message, host_told, told_deed, properties_deed}
 
 -- an answer that is this message can be carried, as the message can
 pub carried-as : (said : Message) (m : Message) → said ≡ m → is_carried m ≡ true → is_carried said ≡ true
@@ -117,14 +117,14 @@ told-met : (s : Stored) (l : Live) (com_id : ℕ) (said : Message) (x : Option H
 told-met s l com_id said None = record { answer = refl; denied = refl; rule = refl; erases = refl; store = refl; sessions = record { next = refl; at = λ n. refl }; beside = refl }
 told-met s l com_id said (Some limits) = record { answer = refl; denied = refl; rule = refl; erases = refl; store = refl; sessions = record { next = refl; at = λ n. refl }; beside = refl }
 
-pub properties-met : (s : Stored) (l m : Live) (com_id : ℕ) (object method : Uid) (call : Call) (said : Message) (erasure : Erasure)
+pub properties-met : (s : Stored) (l m : Live) (com_id : ℕ) (object method : Uid) (call : Call) (said : Message) (why : Option Why) (rule : Option Rule) (erasure : Erasure)
     → object ≡ session_manager → method ≡ properties
     → said ≡ properties_message s.config.profile (channel_of l.beside com_id).limits (map tree call.args.items)
     → m ≡ record l { beside = beside_after (properties_deed s.config.profile com_id (channel_of l.beside com_id).limits (map tree call.args.items)) l.beside }
-    → erasure ≡ no_sectors
+    → why ≡ None → rule ≡ None → erasure ≡ no_sectors
     → (o : Origin) (past : List Event) → KeepsStore s o past → KeepsSessions l past → l.beside ≡ beside past
-    → Meets (called_manager (facts o past) com_id object method (values_of (trees call.args.items))) said None None erasure s s l m
-properties-met s l m com_id object method call said erasure is-object is-method answered kept none o past ks kl here =
+    → Meets (called_manager (facts o past) com_id object method (values_of (trees call.args.items))) said why rule erasure s s l m
+properties-met s l m com_id object method call said why rule erasure is-object is-method answered kept reasons ruled none o past ks kl here =
     let args = map tree call.args.items in
     let limits = (channel_of l.beside com_id).limits in
     let base = told-met s l com_id (properties_message s.config.profile limits args) (host_told s.config.profile limits args) in
@@ -134,7 +134,9 @@ properties-met s l m com_id object method call said erasure is-object is-method 
     (ap (λ (c : Config). properties_with c.profile com_id limits args) ks.config ∙ ap (λ (b : Beside). properties_with o.tables.config.profile com_id (channel_of b com_id).limits args) here) by-live in
     let by-call = subst (λ (x : Outcome). Meets x said None None no_sectors s s l m) (is-properties (facts o past) com_id object method args is-object is-method) by-facts in
     let by-args = subst (λ (x : List Tree). Meets (called_manager (facts o past) com_id object method x) said None None no_sectors s s l m) (sym (values_trees call.args.items)) by-call in
-    subst (λ (x : Erasure). Meets (called_manager (facts o past) com_id object method (values_of (trees call.args.items))) said None None x s s l m) (sym none) by-args
+    let by-reason = subst (λ (x : Option Why). Meets (called_manager (facts o past) com_id object method (values_of (trees call.args.items))) said x None no_sectors s s l m) (sym reasons) by-args in
+    let by-rule = subst (λ (x : Option Rule). Meets (called_manager (facts o past) com_id object method (values_of (trees call.args.items))) said why x no_sectors s s l m) (sym ruled) by-reason in
+    subst (λ (x : Erasure). Meets (called_manager (facts o past) com_id object method (values_of (trees call.args.items))) said why rule x s s l m) (sym none) by-rule
 
 -- ---- what was read
 
@@ -201,11 +203,11 @@ get-carried s t l m session get said h =
 
 -- an answer that changes nothing
 pub unchanged : (x : Message) (said : Answered) (s : Stored) (l : Live) → message said.reply ≡ x → said.denied ≡ None → said.rule ≡ None → said.erases ≡ no_sectors → AnswersAs (says Unchanged x) said s s l l
-unchanged x said s l h k r w = record { answer = h; denied = k; rule = r; erases = w; store = refl; sessions = record { next = refl; at = λ n. refl }; block = refl }
+unchanged x said s l h k r w = record { answer = h; denied = k; rule = r; erases = w; store = refl; sessions = record { next = refl; at = λ n. refl }; beside = refl }
 
 -- an answer of a refusal by a rule, which changes nothing
 pub ruled : (x : Message) (rule : Rule) (said : Answered) (s : Stored) (l : Live) → message said.reply ≡ x → said.denied ≡ None → said.rule ≡ Some rule → said.erases ≡ no_sectors → AnswersAs (refuses_item x rule) said s s l l
-ruled x rule said s l h k r w = record { answer = h; denied = k; rule = r; erases = w; store = refl; sessions = record { next = refl; at = λ n. refl }; block = refl }
+ruled x rule said s l h k r w = record { answer = h; denied = k; rule = r; erases = w; store = refl; sessions = record { next = refl; at = λ n. refl }; beside = refl }
 
 -- ---- the end of a transaction
 
@@ -246,7 +248,7 @@ commits-here o past its number said s t live ks zeroed shown made reply denied r
       erases = erases;
       store = (own.0, own.1, made ∙ ap (λ (n : ℕ). at_part its.sp (part_commit n) s) (sym own.2));
       sessions = record { next = refl; at = λ n. refl };
-      block = refl;
+      beside = refl;
     }))
 
 pub commits : (session : SessionId) (number : ℕ) (said : Answered) (s t : Stored) (live : Live) → number ≡ 0
@@ -274,7 +276,7 @@ aborts-here o past its (suc n) said s t live ks some shown made reply denied rul
       erases = erases;
       store = made;
       sessions = record { next = refl; at = λ n. refl };
-      block = refl;
+      beside = refl;
     })
 
 pub aborts : (session : SessionId) (number : ℕ) (said : Answered) (s t : Stored) (live : Live) → (number ≡ 0 → ⊥)

@@ -1,6 +1,6 @@
 //! The TPer: what is kept behind the ComIDs, and what a send and a receive do with it.
 
-ghost use Rattle.std.specs.Prelude.{◌≡◌, ◌≢◌, ℕ, List, [], ◌∷◌, None, Some, true, false, IfOk, OnErr, OnOk, is_some, length, slice_index, ◌||◌, ◌<◌, ◌≤◌, ◌+◌, ◌*◌};
+ghost use Rattle.std.specs.Prelude.{◌≡◌, ◌≢◌, ℕ, List, [], ◌∷◌, Option, None, Some, if◌then◌else◌, ◌==◌, true, false, IfOk, OnErr, OnOk, is_some, length, slice_index, ◌||◌, ◌<◌, ◌≤◌, ◌+◌, ◌*◌};
 ghost use Rattle.device_data.specs.ErrorLog.{sized};
 ghost use Rattle.sp_tables.specs.Contents.{Contents};
 ghost use Rattle.shadow_mbr.specs.Erasure.{no_sectors};

@@ -6,6 +6,10 @@ use Rattle.tper.proofs.Carried.{start_carried, properties_carried}
 use Rattle.transactions.specs.Stored.{Stored}
 use Rattle.tper.proofs.Configs.{start_config}
 use Rattle.tper.proofs.Items.{carried-as, start-met, properties-met}
+use Rattle.basics.specs.declared.profile.Profile.{Profile}
+use Rattle.sessions.specs.Beside.{channel_of}
+use Rattle.sessions.specs.Made.{beside_after}
+use Rattle.sessions.specs.Properties.{properties_message, properties_deed}
 use Rattle.tper.proofs.item.call_manager.Goals as goal
 
 pub returns-then-eq-2-clause-carried : goal.returns-then-eq-2-clause-carried
@@ -15,8 +19,14 @@ pub returns-then-eq-2-clause-met : goal.returns-then-eq-2-clause-met
 returns-then-eq-2-clause-met c =
     let object : uid_of c.args.call.now.object ≡ session_manager = search rules in
     let method : uid_of c.args.call.now.method ≡ properties = search rules in
-    properties-met c.args.store.now c.args.sessions.now c.properties-reply.new.self c.args.com_id _ _ c.args.call.now _ _ object method
-    c.in_ok-reply.ensures.answer c.in_ok-reply.ensures.kept c.answer.ensures.erases
+    let args = map tree c.args.call.now.args.items in
+    let live = c.args.sessions.now in
+    let limits = (channel_of live.beside c.args.com_id).limits in
+    let profile : c.profile-profile.result ≡ c.args.store.now.config.profile = search rules in
+    properties-met c.args.store.now live c.properties.new.self c.args.com_id _ _ c.args.call.now _ _ _ _ object method
+    (c.answer.ensures.reply ∙ c.in_ok-reply.ensures.answer ∙ ap (λ (p : Profile). properties_message p limits args) profile)
+    (c.in_ok-reply.ensures.kept ∙ ap (λ (p : Profile). record live { beside = beside_after (properties_deed p c.args.com_id limits args) live.beside }) profile)
+    c.answer.ensures.denied c.answer.ensures.rule c.answer.ensures.erases
 
 pub returns-then-eq-4-clause-met : goal.returns-then-eq-4-clause-met
 returns-then-eq-4-clause-met c =

@@ -44,7 +44,7 @@ returns-in_ok-bytes-in-Executes-clause-done c = λ o acts k.
     let e = c.set_served-in-Executes.ensures in
     let x = c.in_ok-bytes-in-Executes.ensures in
     let due = subst (λ (x : Decision). IsDue c.args.self.now c.args.h.now x) c.in-Executes.is c.requires.due in
-    executes-done (facts o (log o acts)) c.args.h.now c.execute.new.self o (log o acts) c.args.payload.now c.in-Executes.command c.args.decision c.set_served-in-Executes.new.self c.in-Executes.is (read-as c.args.self.now o (log o acts) c.args.h.now _ k due.0, due.1.0)
+    executes-done (facts o (log o acts)) c.args.h.now c.execute.new.self o (log o acts) c.args.payload.now c.in-Executes.command c.args.decision c.set_served-in-Executes.new.self c.in-Executes.is (read-as c.args.self.now o (log o acts) c.args.h.now _ k due.0, due.1)
     (record { status_is = e.status; error_is = e.error; held_is = e.held; fises_are = e.fises ∙ c.served_form.ensures; bytes_are = e.bytes ∙ x.data o acts k; denied_is = e.denied ∙ x.denied o acts k; rule_is = e.rule ∙ x.rule o acts k }) (x.kept o acts k)
 
 pub returns-in-Restarts-clause-done : goal.returns-in-Restarts-clause-done

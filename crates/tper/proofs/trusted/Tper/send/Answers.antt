@@ -28,7 +28,7 @@ returns-then-frame-com_id-clause-kept c = λ o acts k.
 
 pub returns-then-frame-com_id-clause-answer : goal.returns-then-frame-com_id-clause-answer
 returns-then-frame-com_id-clause-answer c = λ o acts k.
-    nothing-sent _ NoFrame c.nothing-then-frame-com_id.result c.nothing-then-frame-com_id.ensures.denied c.nothing-then-frame-com_id.ensures.rule c.nothing-then-frame-com_id.ensures.erases
+    nothing-sent _ NoFrame c.nothing.result c.nothing.ensures.denied c.nothing.ensures.rule c.nothing.ensures.erases
     (other-frame (facts o (log o acts)) c.args.com_id _ (reading c.args.payload.now) (frame_of c.in-Ok.frame) c.in-Ok.ensures.exact c.if-frame-com_id.true)
 
 pub returns-then-session-eq0-2-clause-kept : goal.returns-then-session-eq0-2-clause-kept
