@@ -1,17 +1,18 @@
 -- What each clause of the laws of deeds of `history` says: what an item did, it could do.
-use Rattle.std.proofs.Common.{◌≡◌, ℕ, true, false, List, ◌∷◌, Option, Some, None, ◌⊎◌, inl, inr, sym, ◌∙◌}
+use Rattle.std.proofs.Common.{◌≡◌, ℕ, true, false, List, ◌∷◌, Option, Some, None, ◌⊎◌, inl, inr, sym, ◌∙◌, Bool, ap, eq-eqb}
 use Rattle.sp_cells.specs.declared.cells.Cell.{Cell}
 use Rattle.sp_cells.specs.declared.names.Sp.{Sp}
 use Rattle.sp_cells.specs.declared.names.Sp.TheVariants.{Admin, Locking}
 use Rattle.sp_cells.specs.declared.names.Uid.{Uid}
 use Rattle.basics.specs.Profiles.{has_field}
-use Rattle.sessions.specs.Deeds.{SessionDeed, Begun, Change, Started, Changed, Began, Committed, Aborted, Ended, Activated, Reverted, Erased}
+use Rattle.sessions.specs.Deeds.{SessionDeed, Begun, Change, Started, Changed, Began, Committed, Aborted, Ended, Activated, Reverted, Erased, StackReset}
 use Rattle.sessions.specs.Starts.{is_in_use}
 use Rattle.shadow_mbr.specs.declared.erasure.Erasure.{Erasure}
 use Rattle.sp_cells.specs.Config.{table_sectors}
 use Rattle.methods.specs.Erasures.{erased_by_key, erased_by_revert}
 use Rattle.history.specs.Deeds.{DeedLaw, OwnerLaw, LifeLaw, ActivateLaw, RevertLaw, IsRevert, IsRevertSp, is_of_row, is_set_in_admin, is_inside}
 use Rattle.history.specs.Events.{Event, Response, InSession}
+use Rattle.history.specs.Facts.{is_on_com_id}
 use Rattle.history.specs.History.{Act, event, log}
 use Rattle.history.specs.Opening.{Origin}
 use Rattle.history.specs.Readers.{session_on, next_number, open_on, is_of, in_force}
@@ -101,6 +102,15 @@ erased_says : DeedLaw → (o : Origin) (past : List Event) (act : Act) (erasure 
 erased_says law o past act erasure response is =
     let its = law o past act (Erased erasure) response is in
     (its.range, its.outside.session, its.outside.lives.lives, its.outside.outside, its.profile, its.erases)
+
+-- The reset of a stack ends the sessions that live on its ComID.
+stack_reset_says : DeedLaw → (o : Origin) (past : List Event) (act : Act) (com_id : ℕ)
+    (ends : Sp → Bool) (response : Response) → does o past act (StackReset com_id ends) response
+    → (session : Begun) (sp : Sp) → session_on past sp ≡ Some session → session.com_id ≡ com_id
+    → ends sp ≡ true
+stack_reset_says law o past act com_id ends response is session sp lives on =
+    law o past act (StackReset com_id ends) response is sp
+    ∙ ap (is_on_com_id com_id) lives ∙ eq-eqb session.com_id com_id on
 
 -- `owners`: where no session lives, no transaction is open.
 no_owner_no_transaction : OwnerLaw → (o : Origin) (acts : List Act) (sp : Sp) (number : ℕ)

@@ -5,17 +5,22 @@ use Rattle.sp_cells.specs.declared.names.Column.{Column}
 use Rattle.sp_cells.specs.declared.names.Sp.TheVariants.{Admin, Locking}
 use Rattle.sp_cells.specs.declared.names.Uid.{Uid}
 use Rattle.sp_cells.specs.ColumnNames.{pin_column}
-use Rattle.sp_cells.specs.Names.{c_pin_sid}
+use Rattle.sp_cells.specs.Names.{c_pin_sid, table_of}
+use Rattle.sp_tables.specs.RowNames.{rows_of_table}
+use Rattle.ace_eval.specs.Aces.{acl_at}
+use Rattle.methods.specs.Tables.{rows_asked, uids_tree}
+use Rattle.methods.specs.Said.{reply_of}
+use Rattle.tcg_calls.specs.Statuses.{success}
 use Rattle.sp_cells.specs.Numbers.{key_number}
 use Rattle.audit.specs.declared.reason.Why.{Why}
 use Rattle.tcg_tokens.specs.Message.{reply}
 use Rattle.tcg_tokens.specs.Tree.{Tree, Trees, list, trees_of}
 use Rattle.tcg_calls.specs.Asks.{uid_of}
 use Rattle.tcg_calls.specs.declared.call_shapes.ask.Ask.{Ask}
-use Rattle.tcg_calls.specs.declared.call_shapes.ask.Ask.TheVariants.{GetCells, GetBytes, SetCells, SetBytes, Authenticate, Activate, GenKey, RevertSp, Other}
+use Rattle.tcg_calls.specs.declared.call_shapes.ask.Ask.TheVariants.{GetCells, GetBytes, SetCells, SetBytes, Authenticate, Activate, GenKey, RevertSp, Next, GetAcl, Random, Other}
 use Rattle.sessions.specs.Attempts.{attempt_failure, credential}
 use Rattle.sessions.specs.Starts.{is_in_use}
-use Rattle.sessions.specs.Deeds.{Begun, Attempt, Setting, Sets, SessionDeed, Unchanged, Tried, Changed, Activated, Reverted, Erased}
+use Rattle.sessions.specs.Deeds.{Begun, Attempt, Setting, Sets, says, SessionDeed, Unchanged, Tried, Changed, Activated, Reverted, Erased, Drew}
 use Rattle.shadow_mbr.specs.Erasure.{all_sectors}
 use Rattle.methods.specs.Erasures.{erased_by_key, is_wholly_locked}
 use Rattle.methods.specs.Judgement.{to_set}
@@ -80,6 +85,32 @@ listed_says o before step session object method args c first last law effect has
     let its = law.listed first last refl effect has in
     (its.cells, its.says, (λ column cell among. (its.exactly column cell).0 among), its.rises)
 
+-- `rows_told`: a Next tells the rows of the table that it asks for. `acl_told`: a GetACL tells the ACEs of its line.
+next_says : (o : Origin) (before : List Step) (step : Step) (session : Begun)
+    (object method : List ℕ) (args : Trees)
+    (c : IsCallStep o before step session object method args) (after : Option Uid) (count : Option ℕ)
+    → IsJudged o before step session object method args c (Next after count)
+    → takes_effect (comes_to o before session object (Next after count)) ≡ true
+    → IsGrantedAt o before session object method (Next after count)
+    → (rows : List Uid)
+    × (rows_asked after count (rows_of_table session.sp (table_of (uid_of object))) ≡ Some rows)
+    × (event_after tcg o before step ≡ Some (answers c.com_id c.frame.session
+    (says Unchanged (reply_of (uids_tree rows ∷ []) success))))
+next_says o before step session object method args c after count law effect has =
+    let its = law.rows_told after count refl effect has in (its.rows, its.asked_for, its.says)
+
+get_acl_says : (o : Origin) (before : List Step) (step : Step) (session : Begun)
+    (object method : List ℕ) (args : Trees)
+    (c : IsCallStep o before step session object method args) (about what : Uid)
+    → IsJudged o before step session object method args c (GetAcl about what)
+    → takes_effect (comes_to o before session object (GetAcl about what)) ≡ true
+    → IsGrantedAt o before session object method (GetAcl about what)
+    → (acl : List Uid) × (acl_at o.tables.config.profile session.sp about what ≡ Some acl)
+    × (event_after tcg o before step ≡ Some (answers c.com_id c.frame.session
+    (says Unchanged (reply_of (uids_tree acl ∷ []) success))))
+get_acl_says o before step session object method args c about what law effect has =
+    let its = law.acl_told about what refl effect has in (its.acl, its.line, its.says)
+
 -- `effect`, ask by ask: Get changes nothing.
 get_changes_nothing : (f : Facts) (session : Begun) (object : Uid) (first last : ℕ) (deed : SessionDeed)
     → EffectIs f session object (GetCells first last) deed → deed ≡ Unchanged
@@ -135,6 +166,20 @@ revert_sp_keeps : (f : Facts) (session : Begun) (object : Uid) (deed : SessionDe
     → EffectIs f session object (RevertSp true) deed
     → is_wholly_locked (f.rows_of session.number) ≡ false
 revert_sp_keeps f session object deed effect = effect.0 refl
+
+-- Next and GetACL change nothing, and Random gives so many bytes that no other call is given.
+next_changes_nothing : (f : Facts) (session : Begun) (object : Uid) (after : Option Uid)
+    (count : Option ℕ) (deed : SessionDeed) → EffectIs f session object (Next after count) deed
+    → deed ≡ Unchanged
+next_changes_nothing f session object after count deed effect = effect
+
+get_acl_changes_nothing : (f : Facts) (session : Begun) (object about what : Uid) (deed : SessionDeed)
+    → EffectIs f session object (GetAcl about what) deed → deed ≡ Unchanged
+get_acl_changes_nothing f session object about what deed effect = effect
+
+random_draws : (f : Facts) (session : Begun) (object : Uid) (count : ℕ) (deed : SessionDeed)
+    → EffectIs f session object (Random count) deed → deed ≡ Drew count
+random_draws f session object count deed effect = effect
 
 nothing_else : (f : Facts) (session : Begun) (object : Uid) (deed : SessionDeed)
     → EffectIs f session object Other deed → ⊥

@@ -1,9 +1,9 @@
 -- What each clause of the laws of transactions of `history` says.
-use Rattle.std.proofs.Common.{◌≡◌, ℕ, false, List, [], ◌∷◌, Some, refl, ap}
+use Rattle.std.proofs.Common.{◌≡◌, ℕ, true, false, List, [], ◌∷◌, Some, refl, ap}
 use Rattle.std.specs.Prelude.{◌==◌}
 use Rattle.sp_cells.specs.declared.names.Sp.{Sp}
 use Rattle.sp_cells.specs.declared.names.Sp.TheVariants.{Admin, Locking}
-use Rattle.sessions.specs.Deeds.{Aborted, Ended, Reverted}
+use Rattle.sessions.specs.Deeds.{Aborted, Ended, Reverted, StackReset}
 use Rattle.shadow_mbr.specs.Erasure.{all_sectors}
 use Rattle.history.specs.Events.{Event, Response, InSession, WasReset, did}
 use Rattle.history.specs.Facts.{facts}
@@ -48,6 +48,10 @@ abort_aborts response = record { closes = refl; no_commit = refl }
 
 end_aborts : (response : Response) → Aborts Admin (did (InSession (Ended Admin) response))
 end_aborts response = record { closes = refl; no_commit = refl }
+
+stack_reset_aborts : (response : Response)
+    → Aborts Admin (did (InSession (StackReset 0x1000 (λ sp. true)) response))
+stack_reset_aborts response = record { closes = refl; no_commit = refl }
 
 reset_aborts : Aborts Locking (did (WasReset 1))
 reset_aborts = record { closes = refl; no_commit = refl }
