@@ -87,6 +87,14 @@ static void *hba_start(void *it)
 }
 
 static void *hba_turn(void *it) { code = opal_hba_turn(&handle, 0, BASE, memory, sizeof memory).code; return it; }
+
+static void *hba_within(void *it)
+{
+    static const opal_region region = { BASE, sizeof memory };
+    code = opal_hba_turn_within(&handle, 0, BASE, memory, sizeof memory, &region, 1).code;
+    return it;
+}
+
 static void *hba_issue(void *it) { code = opal_hba_write(&handle, PxCI, 1); return it; }
 static void *hba_read(void *it) { code = opal_hba_read(&handle, PxCI).code; return it; }
 static void *hba_interrupt(void *it) { code = opal_hba_interrupt(&handle).code; return it; }
@@ -146,7 +154,7 @@ int main(void)
     RUN(port_put), RUN(port_ready), RUN(port_issue), RUN(port_accept), RUN(port_complete), RUN(port_take), RUN(port_data);
     RUN(port_put), RUN(port_turn), RUN(port_shown), RUN(port_denial), RUN(port_denied), RUN(port_denials), RUN(port_recover), RUN(port_reset), RUN(frees);
     RUN(hba_new);
-    RUN(hba_start), RUN(hba_turn), RUN(hba_issue), RUN(hba_turn), RUN(hba_read), RUN(hba_interrupt), RUN(hba_denial), RUN(hba_denied);
+    RUN(hba_start), RUN(hba_turn), RUN(hba_issue), RUN(hba_within), RUN(hba_read), RUN(hba_interrupt), RUN(hba_denial), RUN(hba_denied);
     RUN(hba_cycle), RUN(frees);
     fprintf(stderr, "stack: at most %zu bytes in any call\n", most);
     return wrong;

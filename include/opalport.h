@@ -304,6 +304,12 @@ typedef struct opal_worked {
     bool denied;  /* the command that was fetched, or what it sent, was denied: opal_hba_denial tells by what */
 } opal_worked;
 
+/* A region of a host's memory: the address of its first byte, and how many bytes it has. */
+typedef struct opal_region {
+    uint64_t begin;
+    uint64_t length;
+} opal_region;
+
 /* What a frame carries, and for whom; the payload stands in the bytes that were opened. */
 typedef struct opal_carried {
     opal_code code;
@@ -451,6 +457,8 @@ opal_code opal_raw_hba_write(opal_raw_object *object, uint32_t offset, uint32_t 
 opal_count opal_raw_hba_interrupt(opal_raw_object *object);
 opal_code opal_raw_hba_power_cycle(opal_raw_object *object);
 opal_worked opal_raw_hba_turn(opal_raw_object *object, size_t choice, uint32_t base, uint8_t *memory, size_t length);
+opal_worked opal_raw_hba_turn_within(opal_raw_object *object, size_t choice, uint32_t base, uint8_t *memory, size_t length,
+                                     const opal_region *regions, size_t region_count);
 opal_count opal_raw_hba_denial(opal_raw_object *object, uint8_t *into, size_t length);
 opal_denied opal_raw_hba_denied(opal_raw_object *object);
 
@@ -1097,6 +1105,29 @@ OPAL_MUST_USE static inline opal_worked opal_hba_turn(opal_handle *hba, size_t c
     if (told.code != OPAL_DONE)
         return told;
     told = opal_raw_hba_turn(&call.object, choice, base, opal_raw_at(memory), length);
+    opal_raw_end(&call);
+    return told;
+}
+
+/* The same, where of those bytes the ones that lie in the regions alone are memory: what the host's memory is where it has
+   holes, mapped at their places in one window. An access is answered where all its bytes lie in one region, so regions that
+   touch are to be told as one; any other access finds no memory, as one outside the window. Without a region there is none.
+   Refused also: OPAL_NULL, OPAL_MISALIGNED and OPAL_LENGTH of the regions, OPAL_SHARED where they stand in the memory. */
+OPAL_MUST_USE static inline opal_worked opal_hba_turn_within(opal_handle *hba, size_t choice, uint32_t base, void *memory,
+                                                             size_t length, const opal_region *regions, size_t region_count)
+{
+    opal_raw_call call;
+    size_t size = region_count > SIZE_MAX / 2 / sizeof *regions ? SIZE_MAX : region_count * sizeof *regions;
+    opal_code fault = opal_raw_into(hba, memory, length);
+    if (fault == OPAL_DONE)
+        fault = opal_raw_between(regions, size, memory, length);
+    if (fault == OPAL_DONE && (uintptr_t)regions % sizeof(uint64_t) != 0)
+        fault = OPAL_MISALIGNED;
+    opal_worked told = { opal_raw_begin(&call, hba, fault), 0, 0, 0, false };
+    if (told.code != OPAL_DONE)
+        return told;
+    told = opal_raw_hba_turn_within(&call.object, choice, base, opal_raw_at(memory), length,
+                                    (const opal_region *)(const void *)opal_raw_at(regions), region_count);
     opal_raw_end(&call);
     return told;
 }

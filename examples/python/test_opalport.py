@@ -384,6 +384,27 @@ class OnAController(unittest.TestCase):
         self.assertEqual(self.memory[0x3000:0x3200], bytes(SECTOR))
         self.assertEqual(self.hba.turn(self.memory, self.BASE).work, Work.NONE)
 
+    def test_what_lies_in_no_region_is_no_memory(self):
+        self.start()
+        whole = [(self.BASE, 0x4000)]
+        for regions, went in (
+            (whole, Went.SERVED),
+            ([(self.BASE, 0x3000), (self.BASE + 0x3000, 512)], Went.SERVED),
+            ([(self.BASE, 0x3000), (self.BASE + 0x3000, 511)], Went.NO_DATA),
+        ):
+            with self.subTest(regions=regions):
+                self.memory[0x3000:0x3200] = b"\xff" * SECTOR
+                self.put(0, 5 | 1 << 16, 0, self.BASE + 0x2000)
+                self.memory[0x2000:0x2014] = read(0)
+                self.put(0x2080, self.BASE + 0x3000, 0, 0, 511)
+                self.hba.write(self.PxCI, 1)
+                self.assertEqual(self.hba.turn(self.memory, self.BASE, regions=regions), Worked(Work.FETCH, 0, went, False))
+                served = went == Went.SERVED
+                self.assertEqual(self.memory[0x3000:0x3200], bytes(SECTOR) if served else b"\xff" * SECTOR)
+        with self.assertRaises(OpalError) as it:
+            self.hba.turn(self.memory, self.BASE, regions=[(0, 2**64)])
+        self.assertEqual(it.exception.code, Code.NUMBER)
+
     def test_what_a_caller_gets_wrong_is_an_error(self):
         with self.assertRaises(OpalError) as it:
             self.hba.read(2**32)

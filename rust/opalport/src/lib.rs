@@ -30,6 +30,7 @@ mod hba;
 mod port;
 
 use opalport_sys as raw;
+pub use opalport_sys::Region;
 
 pub use denied::{Attempt, Denied, Reason, Sp};
 pub use hba::{Hba, Went, Work, Worked};
