@@ -1,7 +1,8 @@
 //! The handlers of granted calls. In each, all that can fail comes before the first change.
 
-ghost use Rattle.std.specs.Prelude.{◌≡◌, ◌≢◌, ◌==◌, ◌↔◌, ◌+◌, ◌*◌, ◌≤◌, ◌<◌, ◌-◌, length, slice_index, ℕ, Err, [], ◌∷◌, Some, None, true, false, not, is_some, option_map, IfOk, OnOk, OnErr, IfErr, if◌then◌else◌};
+ghost use Rattle.std.specs.Prelude.{◌≡◌, ◌≢◌, ◌==◌, ◌↔◌, ◌+◌, ◌*◌, ◌≤◌, ◌<◌, ◌-◌, length, slice_index, ℕ, Err, [], ◌∷◌, Some, None, true, false, not, is_some, map, option_map, IfOk, OnOk, OnErr, IfErr, if◌then◌else◌};
 ghost use Rattle.shadow_mbr.specs.Stored.{sector_size};
+ghost use Rattle.tcg_tokens.specs.Tree.{tree};
 ghost use Rattle.transactions.specs.Bytes.{bytes_from};
 ghost use Rattle.transactions.specs.Sights.{sight_of, is_manufactured};
 ghost use Rattle.sessions.specs.Beside.{new_beside};
