@@ -51,6 +51,14 @@ static void *remedy(void *it) { code = opal_remedy(&handle, 0, text, sizeof text
 static void *failure(void *it) { code = opal_drive_failure(&handle).code; return it; }
 static void *reset(void *it) { code = opal_drive_reset(&handle, OPAL_POWER_CYCLE); return it; }
 static void *tokens(void *it) { code = opal_tokens_text(1, many, sizeof many, text, sizeof text).code; return it; }
+
+static void *named(void *it)
+{
+    static const char line[] = "set 1 Locking_Range1 ReadLocked=0 WriteLocked=0";
+    code = opal_call_named(line, sizeof line - 1, text, sizeof text).code;
+    return it;
+}
+
 static void *decoded(void *it) { code = opal_decoded_text(OPAL_FIS, fis, sizeof fis, text, sizeof text).code; return it; }
 
 static void *port_put(void *it)
@@ -144,7 +152,7 @@ int main(void)
     memset(many, 0xf0, sizeof many);
     least = taken(nothing);
     config.ranges = &locked, config.range_count = 1;
-    RUN(version), RUN(tokens);
+    RUN(version), RUN(tokens), RUN(named);
     RUN(drive_new), RUN(about), RUN(media);
     RUN(frame), RUN(opened), RUN(send_fis), RUN(send_block), RUN(receive_fis), RUN(accepts), RUN(data);
     RUN(read_fis), RUN(decoded), RUN(payload), RUN(accepts), RUN(expects), RUN(completes), RUN(failure), RUN(reset);

@@ -464,6 +464,7 @@ opal_denied opal_raw_hba_denied(opal_raw_object *object);
 
 opal_count opal_raw_tokens(bool by_name, const uint8_t *bytes, size_t bytes_length, uint8_t *into, size_t length);
 opal_count opal_raw_decoded(uint32_t kind, const uint8_t *bytes, size_t bytes_length, uint8_t *into, size_t length);
+opal_count opal_raw_call_named(const uint8_t *line, size_t line_length, uint8_t *into, size_t length);
 opal_count opal_raw_frame(uint16_t com_id, uint32_t tsn, uint32_t hsn, const uint8_t *payload, size_t payload_length,
                           uint8_t *into, size_t length);
 opal_carried opal_raw_opened(const uint8_t *bytes, size_t length);
@@ -1180,6 +1181,18 @@ OPAL_MUST_USE static inline opal_count opal_decoded_text(uint32_t kind, const vo
     if (refused.code != OPAL_DONE)
         return refused;
     return opal_raw_decoded(kind, opal_raw_at(bytes), bytes_length, opal_raw_at(into), length);
+}
+
+/* The tokens of the call that a line writes by name, as a script has it: `start 1 4096 LockingSP Admin1 "secret"`,
+   `set 1 Locking_Range1 ReadLocked=0`, `end 1`. The client's number stands in it, and at `start` the ComID; no token tells them.
+   opal_frame makes the ComPacket of the session. Refused: OPAL_MALFORMED where the line writes no call, OPAL_ROOM,
+   OPAL_OUT_OF_MEMORY. */
+OPAL_MUST_USE static inline opal_count opal_call_named(const char *line, size_t line_length, void *into, size_t length)
+{
+    opal_count refused = { opal_raw_between(line, line_length, into, length), 0 };
+    if (refused.code != OPAL_DONE)
+        return refused;
+    return opal_raw_call_named(opal_raw_at(line), line_length, opal_raw_at(into), length);
 }
 
 /* The frame of a payload of 1 to 65,480 bytes: a ComPacket of one packet of a session with one data subpacket (TCG Core

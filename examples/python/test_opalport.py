@@ -9,7 +9,7 @@ import threading
 import unittest
 
 from opalport import (Code, Command, Denied, Drive, EngineStep, Failure, Hba, Kind, OpalError, Port, Range, Reason, Reset, Taken,
-                      Went, Work, Worked, command_fis, decoded_text, frame, library_version, opened, tokens_text, trusted_fis)
+                      Went, Work, Worked, call_named, command_fis, decoded_text, frame, library_version, opened, tokens_text, trusted_fis)
 from opalport_pipe import PipedDrive
 
 LOCKED = Range(1, 100, 10, True, True, True, True)
@@ -218,6 +218,14 @@ class OnADrive(unittest.TestCase):
         self.assertEqual(tokens_text(b""), "malformed 1 Truncated")
         self.assertIn("Set", tokens_text(UNLOCK, by_name=True))
         self.assertIn("LBA 100\n", decoded_text(Kind.FIS, read(100)))
+
+    def test_a_call_by_name(self):
+        self.assertEqual(call_named("set 1 Locking_Range1 ReadLocked=0 WriteLocked=0"), UNLOCK)
+        self.assertEqual(call_named("end 1"), b"\xfa")
+        for line in ("", "set 1 Locking_Range1", "set Locking_Range1 ReadLocked=0", "set 1 Locking_Range17 ReadLocked=0", "\u00e9"):
+            with self.subTest(line=line), self.assertRaises(OpalError) as it:
+                call_named(line)
+            self.assertEqual(it.exception.code, Code.MALFORMED)
 
     def test_two_drives_in_two_threads(self):
         told = []

@@ -23,7 +23,7 @@ from typing import Any, Iterable, List, Optional, Sequence, Tuple, Type, TypeVar
 
 __all__ = [
     "Answer", "Carried", "ClosedError", "Code", "Command", "Denied", "Drive", "EngineStep", "Failure", "Hba", "Kind", "OpalError",
-    "Port", "Range", "Reason", "Reset", "Shown", "Taken", "Went", "Work", "Worked", "command_fis", "decoded_text", "frame",
+    "Port", "Range", "Reason", "Reset", "Shown", "Taken", "Went", "Work", "Worked", "call_named", "command_fis", "decoded_text", "frame",
     "library_version", "opened", "tokens_text", "trusted_fis",
 ]
 
@@ -456,6 +456,7 @@ _CALLS = {
     "hba_denied": (_Denied, _HANDLE),
     "tokens": (_Count, [ctypes.c_bool, *_BYTES, *_BYTES]),
     "decoded": (_Count, [ctypes.c_uint32, *_BYTES, *_BYTES]),
+    "call_named": (_Count, [*_BYTES, *_BYTES]),
     "frame": (_Count, [ctypes.c_uint16, ctypes.c_uint32, ctypes.c_uint32, *_BYTES, *_BYTES]),
     "opened": (_Carried, _BYTES),
     "command_fis": (_Count, [ctypes.c_uint32, ctypes.c_uint64, ctypes.c_uint32, ctypes.c_uint8, *_BYTES]),
@@ -556,6 +557,11 @@ def tokens_text(data: Bytes, by_name: bool = False) -> str:
 def decoded_text(kind: int, data: Bytes) -> str:
     """The fields of bytes, a line for each."""
     return _written(_LIBRARY.decoded, _within(kind, 2**32 - 1), *_bytes(data)).decode("utf-8")
+
+
+def call_named(line: str) -> bytes:
+    """The tokens of the call that a line writes by name, as a script has it: `set 1 Locking_Range1 ReadLocked=0`."""
+    return _written(_LIBRARY.call_named, *_bytes(line.encode("utf-8")))
 
 
 def frame(com_id: int, tsn: int, hsn: int, payload: Bytes) -> bytes:

@@ -406,6 +406,8 @@ extern "C" {
     pub fn opal_raw_tokens(by_name: bool, bytes: *const u8, bytes_length: usize, into: *mut u8, length: usize) -> Count;
     /// `opal_decoded_text` of the header.
     pub fn opal_raw_decoded(kind: u32, bytes: *const u8, bytes_length: usize, into: *mut u8, length: usize) -> Count;
+    /// `opal_call_named` of the header.
+    pub fn opal_raw_call_named(line: *const u8, line_length: usize, into: *mut u8, length: usize) -> Count;
     /// `opal_frame` of the header.
     pub fn opal_raw_frame(
         com_id: u16,

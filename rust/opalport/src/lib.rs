@@ -498,6 +498,12 @@ pub fn decoded_text(kind: Kind, bytes: &[u8]) -> Result<String, Error> {
         .map(text)
 }
 
+/// The tokens of the call that a line writes by name, as a script has it: `set 1 Locking_Range1 ReadLocked=0`.
+pub fn call_named(line: &str) -> Result<Vec<u8>, Error> {
+    // SAFETY: as in `tokens_text`.
+    written(256, |into, room| unsafe { raw::opal_raw_call_named(line.as_ptr(), line.len(), into, room) })
+}
+
 /// A ComPacket of one packet of a session with one data subpacket.
 pub fn frame(com_id: u16, tsn: u32, hsn: u32, payload: &[u8]) -> Result<Vec<u8>, Error> {
     // SAFETY: as in `tokens_text`.
