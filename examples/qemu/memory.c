@@ -19,7 +19,7 @@ static void place(uint64_t address, uint64_t size, int flags, int fd, int64_t of
     void *at = window ? window + address : NULL;
     void *got = mmap(at, size, PROT_READ | PROT_WRITE, flags | (window ? MAP_FIXED : 0), fd, offset);
     if (got == MAP_FAILED)
-        stop("the guest's memory: %s; is it a memory-backend-memfd with share=on?", strerror(errno));
+        stop("the guest's memory: %s", strerror(errno));
     if (!window)
         window = got;
 }

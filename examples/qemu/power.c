@@ -164,6 +164,8 @@ static void registers(const struct message *message)
         return;
     }
     count.writes++;
+    if (count.maps == 0)
+        stop("QEMU has sent no memory: is it a memory-backend-memfd with share=on?");
     whisper("write %03x: %llx", (unsigned)(address & 0xfff), (unsigned long long)value);
     device_write(address, value, length);
     works();
