@@ -35,7 +35,7 @@ static const char usage[] =
     "      --verbose          each access of a register\n"
     "      --version, --help\n"
     "\n"
-    "The status is QEMU's, 128 and the number of the signal that ended it, 1 where the drive is not saved, 2 for a wrong option.\n";
+    "The status is QEMU's, or 128 and the number of the signal that ended it; 1 where the bridge fails, 2 for a wrong option.\n";
 
 static const struct line lines[] = {
     { .name = "pc", .slot = 2, .pin = "/machine/i440fx/ioapic unnamed-gpio-in 10", .socket = -1 },
@@ -56,6 +56,7 @@ static struct {
 static bool is_verbose;
 static volatile sig_atomic_t signals;
 static pid_t child;
+static bool is_on, is_broken; /* whether the drive has power; whether QEMU sent what is no message */
 
 /* Lines on standard error */
 
@@ -89,6 +90,8 @@ void stop(const char *form, ...)
     va_start(rest, form);
     line_of(form, rest);
     va_end(rest);
+    if (is_on && asked.save)
+        media_saved(asked.save, asked.drive.sectors);
     exit(FAULT);
 }
 
@@ -254,18 +257,22 @@ static int powered(char **words)
         close(line.socket);
         line.socket = -1;
     }
-    power_on(socket, &line, asked.hold);
+    is_on = true;
+    is_broken = !power_on(socket, &line, asked.hold);
+    is_on = false;
+    if (is_broken)
+        kill(child, SIGTERM);
     close(socket);
     close(line.socket);
     int status = qemu_ended(child);
     child = 0;
-    return status;
+    return is_broken ? FAULT : status;
 }
 
 static int all_powered(char **words)
 {
     int status = 0;
-    for (char **next = words; next && signals == 0 && status < BY_SIGNAL;) {
+    for (char **next = words; next && signals == 0 && !is_broken && status < BY_SIGNAL;) {
         words = next;
         while (*next && strcmp(*next, "--") != 0)
             next++;

@@ -52,15 +52,15 @@ void device_write(uint64_t address, uint64_t value, uint32_t length);
 bool device_masters(void);  /* whether the guest lets it reach memory */
 bool device_line(void);     /* INTA, high or low */
 
-/* power.c: a power-on of the drive, by QEMU's messages on a socket, until that is closed. */
+/* power.c: a power-on of the drive, by QEMU's messages on a socket, until QEMU closes that. */
 struct line {
     const char *name;
     int slot;        /* of the device on QEMU's PCI bus */
     const char *pin; /* that INTA leads to, as QEMU's test socket names it; null with KVM */
     int socket;      /* the test socket, or -1 */
 };
-/* With a time to hold queued commands, in milliseconds, or 0. Signals come while it waits. */
-void power_on(int socket, const struct line *line, int hold);
+/* With a time to hold queued commands, in milliseconds, or 0. Signals come while it waits. False where QEMU sent no message. */
+bool power_on(int socket, const struct line *line, int hold);
 
 /* qemu.c: the start of QEMU, with sockets to its device and to its test server; and its end. */
 bool qemu_is_known(char *program);

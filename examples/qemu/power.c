@@ -43,6 +43,7 @@ static int raised = -1, ended = -1; /* with KVM: events of a rising line, and of
 static bool is_high;
 static int hold;             /* milliseconds */
 static bool is_held;
+static bool is_wrong; /* what QEMU sent was no message */
 static struct { unsigned long configs, reads, writes, maps, interrupts; } count;
 
 /* Interrupts */
@@ -185,6 +186,13 @@ static void configuration(const struct message *message)
     answer(0);
 }
 
+static bool fails(const char *what, unsigned long long number)
+{
+    is_wrong = true;
+    tell("QEMU sends a message %s %llu: is it QEMU %s?", what, number, QEMU_VERSION);
+    return false;
+}
+
 static bool serves(struct message *message)
 {
     switch (message->header.kind) {
@@ -200,7 +208,7 @@ static bool serves(struct message *message)
         shows_line();
         answer(0);
         return true;
-    default: tell("QEMU sends a message of kind %d: is it QEMU %s?", message->header.kind, QEMU_VERSION); return false;
+    default: return fails("of kind", (unsigned)message->header.kind);
     }
 }
 
@@ -209,10 +217,8 @@ static bool has_served(void)
 {
     struct message message = { .file_count = 0 };
     bool goes_on = has_read(&message.header, sizeof message.header, &message);
-    if (goes_on && message.header.size > sizeof message.body) {
-        tell("QEMU sends %llu bytes in a message: is it QEMU %s?", (unsigned long long)message.header.size, QEMU_VERSION);
-        goes_on = false;
-    }
+    if (goes_on && message.header.size > sizeof message.body)
+        goes_on = fails("whose size is", message.header.size);
     goes_on = goes_on && has_read(&message.body, message.header.size, &message) && serves(&message);
     for (int i = 0; i < message.file_count; i++)
         close(message.files[i]);
@@ -239,13 +245,13 @@ static double now(void)
     return (double)time.tv_sec + (double)time.tv_nsec / 1e9;
 }
 
-void power_on(int socket, const struct line *by, int held_for)
+bool power_on(int socket, const struct line *by, int held_for)
 {
     double start = now();
     qemu = socket;
     line = *by;
     hold = held_for;
-    is_high = is_held = false;
+    is_high = is_held = is_wrong = false;
     memset(&count, 0, sizeof count);
     memset(&controller_counts, 0, sizeof controller_counts);
     controller_power_cycle();
@@ -267,4 +273,5 @@ void power_on(int socket, const struct line *by, int held_for)
             goes_on = has_served();
     }
     power_off(now() - start);
+    return !is_wrong;
 }
