@@ -32,7 +32,7 @@ static const char usage[] =
     "      --hold MS          queued commands are completed out of order, one each MS milliseconds that the guest is silent\n"
     "      --explain          behind what denied a command, what would lift it\n"
     "      --any-version      goes on with a QEMU other than " QEMU_VERSION "\n"
-    "      --verbose          each access of a register\n"
+    "      --verbose          each access of a register, each section of memory\n"
     "      --version, --help\n"
     "\n"
     "The status is QEMU's, or 128 and the number of the signal that ended it; 1 where the bridge fails, 2 for a wrong option.\n";
@@ -222,6 +222,8 @@ static void completes(void)
         stop("%s has %llu sectors, the drive %llu", asked.image, (unsigned long long)image, (unsigned long long)drive->sectors);
     if (asked.save && drive->sectors > MOST_SAVED)
         stop("--save is for drives of at most %llu sectors", (unsigned long long)MOST_SAVED);
+    if (asked.save)
+        media_tried(asked.save);
 }
 
 /* Power-ons */
@@ -299,7 +301,7 @@ int main(int count, char **words)
     memory_none();
     controller_make(&asked.drive, asked.explains);
     if (asked.image)
-        image_load(asked.image);
+        image_load(asked.image, image_sectors(asked.image));
     waits_for_signals();
     return all_powered(words + optind);
 }

@@ -39,7 +39,8 @@ extern struct counts { unsigned long commands, held; } controller_counts;
 
 /* media.c: a drive of an image, and an image of a drive. */
 uint64_t image_sectors(const char *path);
-void image_load(const char *path);
+void image_load(const char *path, uint64_t sectors);
+void media_tried(const char *path); /* stops where nothing can be saved there */
 bool media_saved(const char *path, uint64_t sectors);
 
 /* device.c: the PCI function that the guest sees. */

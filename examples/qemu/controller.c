@@ -122,8 +122,10 @@ static void hide(struct hidden *hidden)
 
 static void show(const struct hidden *hidden)
 {
-    controller_write(PxCLB, hidden->list);
-    controller_write(PxFB, hidden->received);
+    if (!memory_has(hidden->list, LIST))
+        controller_write(PxCLB, hidden->list);
+    if (!memory_has(hidden->received, RECEIVED))
+        controller_write(PxFB, hidden->received);
     for (int i = 0; i < hidden->count; i++)
         if (word_at(hidden->words[i].address) == WINDOW_END)
             put_word(hidden->words[i].address, hidden->words[i].word);

@@ -11,7 +11,7 @@
 #include <sys/stat.h>
 #include <unistd.h>
 
-enum { LIST_AT = 0x1000, RECEIVED_AT = 0x1400, TABLE_AT = 0x2000, DATA_AT = 0x10000, MOST = 0x10000, ROOM = DATA_AT + MOST };
+enum { LIST_AT = 0x1000, RECEIVED_AT = 0x1400, TABLE_AT = 0x2000, DATA_AT = 0x10000, MOST = 0x10000, ROOM = DATA_AT + MOST, LONGEST = 4096 };
 enum { ENABLE = (int)0x80000000, FRE_ST = 0x11, FIS_WORDS = 5, WRITES = 1 << 6, ONE_ENTRY = 1 << 16, ENTRIES_AT = TABLE_AT + 0x80 };
 
 uint64_t image_sectors(const char *path)
@@ -64,17 +64,16 @@ static size_t filled(const char *path, int fd, uint8_t *into)
     return length;
 }
 
-void image_load(const char *path)
+void image_load(const char *path, uint64_t sectors)
 {
     int fd = open(path, O_RDONLY | O_CLOEXEC);
     if (fd < 0)
         stop("%s: %s", path, strerror(errno));
     memory_own(0, ROOM);
     host_starts();
-    uint64_t lba = 0;
-    for (size_t length = MOST; length == MOST; lba += MOST / OPAL_SECTOR_BYTES) {
+    for (uint64_t lba = 0; lba < sectors; lba += MOST / OPAL_SECTOR_BYTES) {
         memset(memory_at(DATA_AT), 0, MOST);
-        length = filled(path, fd, memory_at(DATA_AT));
+        size_t length = filled(path, fd, memory_at(DATA_AT));
         if (!is_zero(memory_at(DATA_AT), length)) /* a new drive has zeros */
             host_writes(lba, (uint32_t)(length + OPAL_SECTOR_BYTES - 1) / OPAL_SECTOR_BYTES);
     }
@@ -100,14 +99,27 @@ static bool is_written(int fd, uint64_t sectors)
 }
 
 /* The file is another one until it is whole: so one that is there stays as it is where anything fails. */
+static int opens_beside(const char *path, char *beside, size_t room)
+{
+    if (snprintf(beside, room, "%s.new", path) >= (int)room)
+        return errno = ENAMETOOLONG, -1;
+    return open(beside, O_WRONLY | O_CREAT | O_TRUNC | O_CLOEXEC, S_IRUSR | S_IWUSR);
+}
+
+void media_tried(const char *path)
+{
+    char beside[LONGEST];
+    int fd = opens_beside(path, beside, sizeof beside);
+    if (fd < 0)
+        stop("%s cannot be written: %s", path, strerror(errno));
+    close(fd);
+    unlink(beside);
+}
+
 bool media_saved(const char *path, uint64_t sectors)
 {
-    char beside[4096];
-    if (snprintf(beside, sizeof beside, "%s.new", path) >= (int)sizeof beside) {
-        tell("%s: a path that is too long", path);
-        return false;
-    }
-    int fd = open(beside, O_WRONLY | O_CREAT | O_TRUNC | O_CLOEXEC, S_IRUSR | S_IWUSR);
+    char beside[LONGEST];
+    int fd = opens_beside(path, beside, sizeof beside);
     bool is_done = fd >= 0 && is_written(fd, sectors) && rename(beside, path) == 0;
     if (!is_done)
         tell("%s is not saved: %s", path, strerror(errno));
