@@ -265,7 +265,7 @@ bool power_on(int socket, const struct line *by, int held_for)
         if (ready < 0)
             continue; /* a signal */
         if (ready == 0) {
-            is_held = controller_completes();
+            is_held = device_masters() && controller_completes();
             shows_line();
         } else if (waits[1].revents != 0)
             ends_interrupt();

@@ -50,7 +50,8 @@ bool qemu_is_known(char *program)
     const char *version = strncmp(text, before, strlen(before)) == 0 ? text + strlen(before) : "";
     if (strncmp(version, known, strlen(known)) == 0)
         return true;
-    tell("%s says `%s`; the bridge was tried with QEMU %s alone, whose messages another may not send", program, text, QEMU_VERSION);
+    tell("%s says `%s`; the bridge was tried with QEMU %s alone, and another may send other messages (--any-version goes on)",
+         program, text, QEMU_VERSION);
     return false;
 }
 
