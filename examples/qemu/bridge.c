@@ -17,25 +17,30 @@ static const uint64_t MOST_SAVED = 1ull << 27; /* 64 GiB: each sector is looked 
 static const char usage[] =
     "usage: bridge [OPTION..] -- QEMU [WORD..] [-- QEMU [WORD..]]..\n"
     "\n"
-    "Starts QEMU with a self-locking drive behind a PCI AHCI controller. Each `--` begins a power-on of the same drive; the bridge\n"
-    "ends with the last one, or with one that a signal ends. QEMU's memory is to be a memory-backend-memfd with share=on.\n"
+    "Starts QEMU with a self-locking drive behind a PCI AHCI controller. Each `--` begins a power-on of\n"
+    "the same drive; the bridge ends with the last one, or with one that a signal ends. QEMU's memory is\n"
+    "to be a memory-backend-memfd with share=on.\n"
     "\n"
-    "      --image FILE       the first sectors of the drive are those of a raw image\n"
-    "      --save FILE        behind each power-on what the media hold is written to FILE, a raw image; no locks, no PINs\n"
-    "      --sectors N        sectors of 512 bytes (those of the image; at least 524288 with opal, else 1000)\n"
-    "      --profile NAME     base, field or opal (opal)\n"
-    "      --shadow N         how many sectors the shadow MBR can have (262144 with opal, else 8)\n"
-    "      --range N,START,LENGTH,RLE,WLE   a range whose reads (RLE 1) and writes (WLE 1) each power-on locks\n"
-    "      --msid TEXT        the PIN that SID has at first (OPALMSID)\n"
-    "      --psid TEXT, --serial TEXT, --model TEXT   what the drive's label and IDENTIFY DEVICE say\n"
-    "      --interrupts HOW   where INTA goes: pc (the I/O APIC of -machine pc), q35, 8259 (that of pc), kvm (pc)\n"
-    "      --hold MS          queued commands are completed out of order, one each MS milliseconds that the guest is silent\n"
-    "      --explain          behind what denied a command, what would lift it\n"
-    "      --any-version      goes on with a QEMU other than " QEMU_VERSION "\n"
-    "      --verbose          each access of a register, each section of memory\n"
-    "      --version, --help\n"
+    "  --image FILE       the first sectors of the drive are those of a raw image\n"
+    "  --save FILE        behind each power-on what the media hold goes to FILE, a raw image; no locks, no PINs\n"
+    "  --sectors N        sectors of 512 bytes (as many as the image has; at least 524288 with opal, else 1000)\n"
+    "  --profile NAME     base, field or opal (opal)\n"
+    "  --shadow N         how many sectors the shadow MBR can have (262144 with opal, else 8)\n"
+    "  --range N,START,LENGTH,RLE,WLE\n"
+    "                     a range whose reads (RLE 1) and writes (WLE 1) each power-on locks\n"
+    "  --msid TEXT        the PIN that SID has at first (OPALMSID)\n"
+    "  --psid TEXT, --serial TEXT, --model TEXT\n"
+    "                     what the drive's label and IDENTIFY DEVICE say\n"
+    "  --interrupts HOW   where INTA goes: pc (the I/O APIC of -machine pc), q35, 8259 (that of pc), kvm (pc)\n"
+    "  --hold MS          queued commands are completed out of order, one each MS milliseconds that the guest\n"
+    "                     is silent\n"
+    "  --explain          behind what denied a command, what would lift it\n"
+    "  --any-version      goes on with a QEMU other than " QEMU_VERSION "\n"
+    "  --verbose          each access of a register, each section of memory\n"
+    "  --version, --help\n"
     "\n"
-    "The status is QEMU's, or 128 and the number of the signal that ended it; 1 where the bridge fails, 2 for a wrong option.\n";
+    "The status is QEMU's, or 128 and the number of the signal that ended it; 1 where the bridge fails, 2 for\n"
+    "a wrong option.\n";
 
 static const struct line lines[] = {
     { .name = "pc", .slot = 2, .pin = "/machine/i440fx/ioapic unnamed-gpio-in 10", .socket = -1 },
@@ -157,7 +162,8 @@ static _Noreturn void version(void)
     exit(0);
 }
 
-enum option_name { IMAGE = 256, SAVE, SECTORS, PROFILE, SHADOW, RANGE, MSID, PSID, SERIAL, MODEL, INTERRUPTS, HOLD, EXPLAIN, ANY, VERBOSE, VERSION, HELP };
+enum option_name { SECTORS = 256, PROFILE, SHADOW, RANGE, MSID, PSID, SERIAL, MODEL, /* of the drive, and of the bridge: */
+                   IMAGE, SAVE, INTERRUPTS, HOLD, EXPLAIN, ANY, VERBOSE, VERSION, HELP };
 
 static const struct option options[] = {
     { "image", required_argument, NULL, IMAGE },     { "save", required_argument, NULL, SAVE },

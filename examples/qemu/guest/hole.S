@@ -1,6 +1,6 @@
 # A firmware that has the controller read sector 0 with an address in the hole at D0000000h: of the block, of the command table, of the
-# command list, of received FISes. It tells `h` where PxIS.HBFS is set then; at last it reads sector 0 into memory, and tells `r`
-# where PxCI is 0 and the sector is a boot sector. So it tells `hhhhr`.
+# command list, of received FISes. It tells `h` where PxIS.HBFS is set then. Then it reads sector 0 into memory twice, the second time
+# with a second block in the hole, to which no data come; it tells `r` where PxCI is 0 and the sector is a boot sector. So `hhhhrr`.
         .include "firmware.inc"
         .set    HOLE, 0xd0000000
         .set    LIST, 0x10000
@@ -32,6 +32,11 @@ main:   begins
         mov     $HOLE, %ecx
         call    reads
         mov     $RECEIVED, %ecx
+        call    reads
+        movl    $5 | 2 << 16, LIST
+        movl    $HOLE, TABLE + 0x90
+        movl    $511, TABLE + 0x9c
+        movl    $0, DATA + 508
         call    reads
         ends
 reads:  movl    $0x10, PxCMD            # ST 0: the port stops, and has no error from here on
