@@ -55,12 +55,21 @@ bool qemu_is_known(char *program)
     return false;
 }
 
+/* With a second processor QEMU drops accesses of the device: commands are lost. */
+static void refuses_processors(char **given)
+{
+    for (size_t i = 0; given[i]; i++)
+        if (strcmp(given[i], "-smp") == 0 && given[i + 1] && strcmp(given[i + 1], "1") != 0)
+            stop("-smp %s: a guest of the bridge has one processor", given[i + 1]);
+}
+
 /* QEMU's words: its name, those of the device, and what the caller gave. */
 static char **words_of(char **given, const struct line *line)
 {
     static char device[64];
     static char *const test[] = { "-chardev", "socket,id=qtest,fd=4", "-qtest", "chardev:qtest", "-qtest-log", "/dev/null" };
     size_t count = 0, at = 0;
+    refuses_processors(given);
     while (given[count])
         count++;
     char **words = calloc(count + MOST_WORDS, sizeof *words);
