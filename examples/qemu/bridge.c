@@ -11,7 +11,7 @@
 #include <string.h>
 #include <unistd.h>
 
-enum { RANGES = 17, FAULT = 1, USAGE = 2, BY_SIGNAL = 128 };
+enum { RANGES = 17, LONGEST_HOLD = 60000, FAULT = 1, USAGE = 2, BY_SIGNAL = 128 };
 static const uint64_t MOST_SAVED = 1ull << 27; /* 64 GiB: each sector is looked at */
 
 static const char usage[] =
@@ -117,6 +117,14 @@ static uint64_t number_of(const char *option, const char *text)
     return number;
 }
 
+static int milliseconds_of(const char *text)
+{
+    uint64_t number = number_of("--hold", text);
+    if (number > LONGEST_HOLD)
+        refuse("--hold", text);
+    return (int)number;
+}
+
 static void range_of(const char *text)
 {
     unsigned number, read_enabled, write_enabled;
@@ -200,7 +208,7 @@ static void takes(int option, const char *value)
     case IMAGE: asked.image = value; break;
     case SAVE: asked.save = value; break;
     case INTERRUPTS: asked.line = line_by(value); break;
-    case HOLD: asked.hold = (int)(number_of("--hold", value) % 1000000); break;
+    case HOLD: asked.hold = milliseconds_of(value); break;
     case EXPLAIN: asked.explains = true; break;
     case ANY: asked.any_version = true; break;
     case VERBOSE: is_verbose = true; break;

@@ -125,11 +125,15 @@ pid_t qemu_started(char **given, struct line *line, int *socket)
     return child;
 }
 
-/* The status of QEMU once it has ended, or 128 and the signal that ended it. */
+/* The status of QEMU once it has ended, or 128 and the signal that ended it. Signals come meanwhile. */
 int qemu_ended(pid_t child)
 {
     int status = 0;
+    sigset_t none, before;
+    sigemptyset(&none);
+    sigprocmask(SIG_SETMASK, &none, &before);
     while (waitpid(child, &status, 0) < 0 && errno == EINTR)
         ;
+    sigprocmask(SIG_SETMASK, &before, NULL);
     return WIFEXITED(status) ? WEXITSTATUS(status) : 128 + WTERMSIG(status);
 }
