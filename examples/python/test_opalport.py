@@ -222,7 +222,7 @@ class OnADrive(unittest.TestCase):
     def test_a_call_by_name(self):
         self.assertEqual(call_named("set 1 Locking_Range1 ReadLocked=0 WriteLocked=0"), UNLOCK)
         self.assertEqual(call_named("end 1"), b"\xfa")
-        for line in ("", "set 1 Locking_Range1", "set Locking_Range1 ReadLocked=0", "set 1 Locking_Range17 ReadLocked=0", "\u00e9"):
+        for line in ("", "set 1 Locking_Range1 ReadLocked", "set Locking_Range1 ReadLocked=0", "set 1 Locking_Range17 ReadLocked=0", "\u00e9"):
             with self.subTest(line=line), self.assertRaises(OpalError) as it:
                 call_named(line)
             self.assertEqual(it.exception.code, Code.MALFORMED)

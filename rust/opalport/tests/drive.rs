@@ -47,7 +47,7 @@ fn call(drive: &mut Drive, tsn: u32, hsn: u32, tokens: &str) -> String {
 fn a_call_is_written_by_name() {
     assert_eq!(call_named("set 1 Locking_Range1 ReadLocked=0 WriteLocked=0").unwrap(), bytes(UNLOCK));
     assert_eq!(call_named("end 1").unwrap(), [0xfa]);
-    assert_eq!(call_named("set 1 Locking_Range1").err(), Some(Error::Malformed));
+    assert_eq!(call_named("set 1 Locking_Range1 ReadLocked").err(), Some(Error::Malformed));
 }
 
 #[test]
