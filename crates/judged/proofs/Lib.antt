@@ -1,0 +1,5 @@
+mod SameLines
+mod NamedFreedoms
+mod Numbered
+mod Verdicts
+mod OwnAnswers

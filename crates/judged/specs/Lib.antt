@@ -1,0 +1,5 @@
+pub mod Transcripts
+pub mod Answers
+pub mod Freedoms
+pub mod Judgements
+pub mod Laws
