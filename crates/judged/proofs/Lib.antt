@@ -1,3 +1,4 @@
+mod BehindWords
 mod SameLines
 mod NamedFreedoms
 mod Numbered

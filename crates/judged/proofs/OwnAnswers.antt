@@ -7,7 +7,7 @@ use Rattle.sp_cells.specs.Config.{Config}
 use Rattle.tool.specs.Scripts.{ScriptLine, is_skipped, with_numbers}
 use Rattle.judged.specs.Transcripts.{with_line_end, answer_mark, is_answer_line, is_answer, answer_told, fresh_entry, with_answer, with_remark, line_added, nothing_read, all_entries, holds_remarks, entries_of}
 use Rattle.judged.specs.Answers.{said_behind, is_audit, wanted_of, reasons_behind}
-use Rattle.judged.specs.Judgements.{are_same, freedom_of, verdict_beside, answers_verdict, entry_verdict, wanted_at, through, ruling_at, rulings_at, with_entry, nothing_judged, rulings_of, is_agreement}
+use Rattle.judged.specs.Judgements.{are_same, freedom_of, verdict_beside, answers_verdict, entry_verdict, wanted_at, other_at, through, ruling_at, rulings_at, with_entry, nothing_judged, rulings_of, is_agreement}
 use Rattle.judged.specs.Laws.{OwnAnswersLaw, answer_line, marks_for, own_lines, own_transcript}
 use Rattle.judged.specs.declared.entry.Entry.{Entry}
 use Rattle.judged.specs.declared.freedom.Freedom.{Freedom}
@@ -43,14 +43,14 @@ wanted_own said = at (list_any is_audit said) refl
     at false is = keeps_plain said is
 
 -- answers that are what the model says agree
-agreed : (config : Config) (freedoms : List Freedom) (before : List ℕ) (entry : Entry)
-    → entry.answers ≡ said_behind config before (through before entry) → entry_verdict config freedoms before entry ≡ Agrees
-agreed config freedoms before entry is =
+agreed : (config : Config) (freedoms : List Freedom) (before other : List ℕ) (entry : Entry)
+    → entry.answers ≡ said_behind config before (through before entry) → entry_verdict config freedoms before other entry ≡ Agrees
+agreed config freedoms before other entry is =
     let wanted : wanted_at config before entry ≡ entry.answers =
     sym (ap (λ said. wanted_of entry.answers said) is) ∙ wanted_own entry.answers in
     let same : are_same entry.answers (wanted_at config before entry) ≡ true =
     (are_same-Decides entry.answers (wanted_at config before entry)).1 (sym wanted) in
-    ap (λ t. cond t Agrees (verdict_beside (freedom_of freedoms entry.line entry.answers (wanted_at config before entry)) entry.answers (wanted_at config before entry) (reasons_behind config before (through before entry)))) same
+    ap (λ t. cond t Agrees (verdict_beside (freedom_of freedoms entry.line entry.answers (wanted_at config before entry) (other_at config other entry)) entry.answers (wanted_at config before entry) (reasons_behind config before (through before entry)))) same
 
 -- so far all agree, and the line at hand has no answer, or the model's
 record Fits (config : Config) (freedoms : List Freedom) (before : List ℕ) (reading : Reading) (judging : Judging) : Type 0 where
@@ -68,20 +68,20 @@ all-append (x ∷ xs) ys a b =
 -- the line at hand agrees, too
 at_hand : (config : Config) (freedoms : List Freedom) (judging : Judging) (entry : Entry)
     → (entry.answers ≡ []) ⊎ (entry.answers ≡ said_behind config judging.script (through judging.script entry))
-    → list_all test (rulings_at config freedoms judging.script entry) ≡ true
+    → list_all test (rulings_at config freedoms judging.script judging.other entry) ≡ true
 at_hand config freedoms judging entry (inl none) =
-    ap (λ (answers : List (List ℕ)). list_all test (cond (length answers == 0) [] (ruling_at config freedoms judging.script entry ∷ []))) none
+    ap (λ (answers : List (List ℕ)). list_all test (cond (length answers == 0) [] (ruling_at config freedoms judging.script judging.other entry ∷ []))) none
 at_hand config freedoms judging entry (inr is) = at (length entry.answers == 0)
   where
-    at : (t : Bool) → list_all test (cond t [] (ruling_at config freedoms judging.script entry ∷ [])) ≡ true
+    at : (t : Bool) → list_all test (cond t [] (ruling_at config freedoms judging.script judging.other entry ∷ [])) ≡ true
     at true = refl
-    at false = ap (λ v. is_agreement v && true) (agreed config freedoms judging.script entry is)
+    at false = ap (λ v. is_agreement v && true) (agreed config freedoms judging.script judging.other entry is)
 
 next : (config : Config) (freedoms : List Freedom) (before : List ℕ) (reading : Reading) (judging : Judging)
     → Fits config freedoms before reading judging
     → list_all test (with_entry config freedoms judging reading.current).rulings ≡ true
 next config freedoms before reading judging fits =
-    all-append judging.rulings (rulings_at config freedoms judging.script reading.current) fits.agree
+    all-append judging.rulings (rulings_at config freedoms judging.script judging.other reading.current) fits.agree
     (at_hand config freedoms judging reading.current fits.answers)
 
 judged_all : (config : Config) (freedoms : List Freedom) (before : List ℕ) (reading : Reading) (judging : Judging)

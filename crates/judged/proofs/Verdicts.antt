@@ -5,7 +5,7 @@ use Rattle.judged.specs.Freedoms.{is_by, freedom_between, freedom_named, freedom
 use Rattle.judged.specs.Judgements.{are_same, freedom_of, verdict_beside, answers_verdict, is_agreement, is_allowance, is_wrong, wrong_text}
 use Rattle.judged.specs.Laws.{AgreesLaw, AllowsLaw, WrongLaw, NamesLaw, DiffersBy}
 use Rattle.judged.specs.declared.freedom.Freedom.{Freedom}
-use Rattle.judged.specs.declared.freedom.Freedom.TheVariants.{ErrorBits, VendorBytes, Identity}
+use Rattle.judged.specs.declared.freedom.Freedom.TheVariants.{ErrorBits, BlankSectors, VendorBytes, Identity}
 use Rattle.judged.specs.declared.ruling.Verdict.{Verdict}
 use Rattle.judged.specs.declared.ruling.Verdict.TheVariants.{Agrees, Allowed, Wrong}
 use Rattle.judged.proofs.SameLines.{are_same-Decides}
@@ -20,8 +20,8 @@ agrees_at true v differs = (λ _. refl, λ _. refl)
 agrees_at false v differs = (λ e. absurd (differs e), λ e. absurd (false≢true e))
 
 pub agrees : AgreesLaw
-agrees freedoms asked heard wanted reasons =
-    let o = freedom_of freedoms asked heard wanted in
+agrees freedoms asked heard wanted other reasons =
+    let o = freedom_of freedoms asked heard wanted other in
     let at = agrees_at (are_same heard wanted) (verdict_beside o heard wanted reasons) (no_agreement o heard wanted reasons) in
     let decides = are_same-Decides heard wanted in (
       λ e. decides.0 (at.0 e),
@@ -58,34 +58,34 @@ missed p (g ∷ gs) f e passes among =
     missed-cons p g gs f (p g) refl (λ none. missed p gs f none passes) passes e among.0 among.1 among.2
 
 -- the freedom by which answers differ
-freed : (freedoms : List Freedom) (asked : List ℕ) (heard wanted : List (List ℕ)) (f : Freedom)
-    → freedom_of freedoms asked heard wanted ≡ Some f → Contains freedoms f × DiffersBy asked heard wanted f
-freed freedoms asked [] wanted f e = absurd (false≢true (ap is_some e))
-freed freedoms asked (x ∷ xs) [] f e = absurd (false≢true (ap is_some e))
-freed freedoms asked (x ∷ xs) (y ∷ ys) f e = at (are_same xs ys) refl e
+freed : (freedoms : List Freedom) (asked : List ℕ) (heard wanted : List (List ℕ)) (other : List ℕ) (f : Freedom)
+    → freedom_of freedoms asked heard wanted other ≡ Some f → Contains freedoms f × DiffersBy asked heard wanted other f
+freed freedoms asked [] wanted other f e = absurd (false≢true (ap is_some e))
+freed freedoms asked (x ∷ xs) [] other f e = absurd (false≢true (ap is_some e))
+freed freedoms asked (x ∷ xs) (y ∷ ys) other f e = at (are_same xs ys) refl e
   where
-    at : (t : Bool) → are_same xs ys ≡ t → cond t (freedom_between freedoms asked x y) None ≡ Some f
-        → Contains freedoms f × DiffersBy asked (x ∷ xs) (y ∷ ys) f
+    at : (t : Bool) → are_same xs ys ≡ t → cond t (freedom_between freedoms asked x y other) None ≡ Some f
+        → Contains freedoms f × DiffersBy asked (x ∷ xs) (y ∷ ys) other f
     at true same e =
-        let r = found (is_by asked x y) freedoms f e in
+        let r = found (is_by asked x y other) freedoms f e in
         (r.0, (x, y, xs, refl, ap (λ zs. y ∷ zs) (sym ((are_same-Decides xs ys).0 same)), r.1))
     at false same e = absurd (false≢true (ap is_some e))
 
 -- where there is none, they differ by none
-not_freed : (freedoms : List Freedom) (asked : List ℕ) (heard wanted : List (List ℕ)) (f : Freedom)
-    → freedom_of freedoms asked heard wanted ≡ None → Contains freedoms f → DiffersBy asked heard wanted f → ⊥
-not_freed freedoms asked heard wanted f e among (x, y, rest, is_heard, is_wanted, by) =
-    let none : freedom_of freedoms asked (x ∷ rest) (y ∷ rest) ≡ None =
-    sym (ap (λ hs. freedom_of freedoms asked hs (y ∷ rest)) is_heard) ∙ sym (ap (λ ws. freedom_of freedoms asked heard ws) is_wanted) ∙ e in
+not_freed : (freedoms : List Freedom) (asked : List ℕ) (heard wanted : List (List ℕ)) (other : List ℕ) (f : Freedom)
+    → freedom_of freedoms asked heard wanted other ≡ None → Contains freedoms f → DiffersBy asked heard wanted other f → ⊥
+not_freed freedoms asked heard wanted other f e among (x, y, rest, is_heard, is_wanted, by) =
+    let none : freedom_of freedoms asked (x ∷ rest) (y ∷ rest) other ≡ None =
+    sym (ap (λ hs. freedom_of freedoms asked hs (y ∷ rest) other) is_heard) ∙ sym (ap (λ ws. freedom_of freedoms asked heard ws other) is_wanted) ∙ e in
     let same : are_same rest rest ≡ true = (are_same-Decides rest rest).1 refl in
-    missed (is_by asked x y) freedoms f
-    (sym (ap (λ t. cond t (freedom_between freedoms asked x y) None) same) ∙ none) by among
+    missed (is_by asked x y other) freedoms f
+    (sym (ap (λ t. cond t (freedom_between freedoms asked x y other) None) same) ∙ none) by among
 
 pub allows : AllowsLaw
-allows freedoms asked heard wanted reasons freedom e = at (are_same heard wanted) refl e
+allows freedoms asked heard wanted other reasons freedom e = at (are_same heard wanted) refl e
   where
-    by : (o : Option Freedom) → freedom_of freedoms asked heard wanted ≡ o → verdict_beside o heard wanted reasons ≡ Allowed freedom
-        → freedom_of freedoms asked heard wanted ≡ Some freedom
+    by : (o : Option Freedom) → freedom_of freedoms asked heard wanted other ≡ o → verdict_beside o heard wanted reasons ≡ Allowed freedom
+        → freedom_of freedoms asked heard wanted other ≡ Some freedom
     by None is e = absurd (false≢true (ap is_allowance e))
     by (Some f) is e = is ∙ ap freedom_in e
       where
@@ -95,32 +95,33 @@ allows freedoms asked heard wanted reasons freedom e = at (are_same heard wanted
         freedom_in (Wrong text) = None
 
     at : (t : Bool) → are_same heard wanted ≡ t
-        → cond t Agrees (verdict_beside (freedom_of freedoms asked heard wanted) heard wanted reasons) ≡ Allowed freedom
-        → (heard ≢ wanted) × Contains freedoms freedom × DiffersBy asked heard wanted freedom
+        → cond t Agrees (verdict_beside (freedom_of freedoms asked heard wanted other) heard wanted reasons) ≡ Allowed freedom
+        → (heard ≢ wanted) × Contains freedoms freedom × DiffersBy asked heard wanted other freedom
     at true is e = absurd (false≢true (ap is_allowance e))
     at false is e =
-        let r = freed freedoms asked heard wanted freedom (by (freedom_of freedoms asked heard wanted) refl e) in
+        let r = freed freedoms asked heard wanted other freedom (by (freedom_of freedoms asked heard wanted other) refl e) in
         (λ same. false≢true (sym is ∙ (are_same-Decides heard wanted).1 same), r.0, r.1)
 
 pub wrong : WrongLaw
-wrong freedoms asked heard wanted reasons = at (are_same heard wanted) refl (freedom_of freedoms asked heard wanted) refl
+wrong freedoms asked heard wanted other reasons = at (are_same heard wanted) refl (freedom_of freedoms asked heard wanted other) refl
   where
-    at : (t : Bool) → are_same heard wanted ≡ t → (o : Option Freedom) → freedom_of freedoms asked heard wanted ≡ o
+    at : (t : Bool) → are_same heard wanted ≡ t → (o : Option Freedom) → freedom_of freedoms asked heard wanted other ≡ o
         → (is_wrong (cond t Agrees (verdict_beside o heard wanted reasons)) ≡ true
-        → (heard ≢ wanted) × ((f : Freedom) → Contains freedoms f → DiffersBy asked heard wanted f → ⊥))
-        × ((heard ≢ wanted) × ((f : Freedom) → Contains freedoms f → DiffersBy asked heard wanted f → ⊥)
+        → (heard ≢ wanted) × ((f : Freedom) → Contains freedoms f → DiffersBy asked heard wanted other f → ⊥))
+        × ((heard ≢ wanted) × ((f : Freedom) → Contains freedoms f → DiffersBy asked heard wanted other f → ⊥)
         → is_wrong (cond t Agrees (verdict_beside o heard wanted reasons)) ≡ true)
     at true is o o_is = (λ e. absurd (false≢true e), λ h. absurd (h.0 ((are_same-Decides heard wanted).0 is)))
     at false is (Some f) o_is = (
       λ e. absurd (false≢true e),
-      λ h. let r = freed freedoms asked heard wanted f o_is in absurd (h.1 f r.0 r.1),
+      λ h. let r = freed freedoms asked heard wanted other f o_is in absurd (h.1 f r.0 r.1),
     )
     at false is None o_is = (
-      λ e. (λ same. false≢true (sym is ∙ (are_same-Decides heard wanted).1 same), λ f. not_freed freedoms asked heard wanted f o_is),
+      λ e. (λ same. false≢true (sym is ∙ (are_same-Decides heard wanted).1 same), λ f. not_freed freedoms asked heard wanted other f o_is),
       λ h. refl,
     )
 
 pub named : NamesLaw
 named ErrorBits = refl
+named BlankSectors = refl
 named VendorBytes = refl
 named Identity = refl

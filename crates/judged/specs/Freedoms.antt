@@ -5,9 +5,10 @@ use Rattle.std.specs.Str.{bytes_eq}
 use Rattle.hex.specs.Hex.{decode_sized}
 use Rattle.hex.specs.declared.error.FromHexError.{FromHexError}
 use Rattle.script_lines.specs.Words.{nth_word}
+use Rattle.judged.specs.Blanks.{is_digit, differs_by_blanks}
 use Rattle.judged.specs.declared.freedom.Freedom.{Freedom}
 use Rattle.judged.specs.declared.freedom.Span.{Span}
-use Rattle.judged.specs.declared.freedom.Freedom.TheVariants.{ErrorBits, VendorBytes, Identity}
+use Rattle.judged.specs.declared.freedom.Freedom.TheVariants.{ErrorBits, BlankSectors, VendorBytes, Identity}
 
 -- The bits of the Error field to which ACS-3 (section 6.3) gives a meaning for a drive: the CRC of the
 -- interface (7), an uncorrectable error (6), ID not found (4) and abort (2). The others are obsolete, or
@@ -52,10 +53,6 @@ has_digit place span = nat_le (5 + 2 * span.first) place && nat_lt place (5 + 2 
 abbrev pub has_some_digit : List Span → ℕ → Bool
 has_some_digit spans place = list_any (has_digit place) spans
 
--- a hex digit, as it is printed
-abbrev pub is_digit : ℕ → Bool
-is_digit byte = (nat_le 48 byte && nat_le byte 57) || (nat_le 97 byte && nat_le byte 102)
-
 abbrev pub may_stand : List Span → ℕ → ℕ → ℕ → Bool
 may_stand spans place heard wanted =
     heard == wanted || (is_digit heard && has_some_digit spans place)
@@ -86,30 +83,35 @@ identity_spans = record { first = 20; limit = 40 } ∷ record { first = 46; limi
 abbrev pub asks_identity : List ℕ → Bool
 asks_identity line = bytes_eq (nth_word 0 line) (codes "identify")
 
--- the answer of a drive to a line differs from the model's by this freedom alone
-abbrev pub is_by : List ℕ → List ℕ → List ℕ → Freedom → Bool
-is_by asked heard wanted ErrorBits = differs_by_error_bits heard wanted
-is_by asked heard wanted VendorBytes =
+-- The answer of a drive to a line differs from the model's by this freedom alone. `other` is what the
+-- model answers where every write before wrote another byte. What a sector holds that nothing has
+-- written, or that an erasure wiped, no command of ACS-3 says, nor does Opal SSC 2.01 (section 5.1.2).
+abbrev pub is_by : List ℕ → List ℕ → List ℕ → List ℕ → Freedom → Bool
+is_by asked heard wanted other ErrorBits = differs_by_error_bits heard wanted
+is_by asked heard wanted other BlankSectors = differs_by_blanks heard wanted other
+is_by asked heard wanted other VendorBytes =
     asks_level0 asked && differs_within vendor_spans 0 heard wanted
-is_by asked heard wanted Identity =
+is_by asked heard wanted other Identity =
     asks_identity asked && differs_within identity_spans 0 heard wanted
 
 -- the first of the freedoms that are given by which it does
-abbrev pub freedom_between : List Freedom → List ℕ → List ℕ → List ℕ → Option Freedom
-freedom_between freedoms asked heard wanted = find (is_by asked heard wanted) freedoms
+abbrev pub freedom_between : List Freedom → List ℕ → List ℕ → List ℕ → List ℕ → Option Freedom
+freedom_between freedoms asked heard wanted other = find (is_by asked heard wanted other) freedoms
 
 -- the names of freedoms
 abbrev pub freedom_name : Freedom → List ℕ
 freedom_name ErrorBits = codes "error-bits"
+freedom_name BlankSectors = codes "blank-sectors"
 freedom_name VendorBytes = codes "vendor-bytes"
 freedom_name Identity = codes "identity"
 
 abbrev pub all_freedoms : List Freedom
-all_freedoms = ErrorBits ∷ VendorBytes ∷ Identity ∷ []
+all_freedoms = ErrorBits ∷ BlankSectors ∷ VendorBytes ∷ Identity ∷ []
 
 abbrev pub freedom_named : List ℕ → Option Freedom
 freedom_named name =
     if bytes_eq name (codes "error-bits") then Some ErrorBits
+    else if bytes_eq name (codes "blank-sectors") then Some BlankSectors
     else if bytes_eq name (codes "vendor-bytes") then Some VendorBytes
     else if bytes_eq name (codes "identity") then Some Identity
     else None

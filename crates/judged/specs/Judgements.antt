@@ -7,6 +7,7 @@ use Rattle.tool.specs.Outcomes.{RunOutcome, Yields, ends, run_outcome_of}
 use Rattle.tool.specs.Scripts.{script_lines}
 use Rattle.judged.specs.Transcripts.{with_line_end, entries_of, script_of}
 use Rattle.judged.specs.Answers.{said_behind, reasons_behind, wanted_of}
+use Rattle.judged.specs.Blanks.{other_line, other_text, first_answer}
 use Rattle.judged.specs.Freedoms.{freedom_between, freedom_name}
 use Rattle.judged.specs.declared.entry.Entry.{Entry}
 use Rattle.judged.specs.declared.freedom.Freedom.{Freedom}
@@ -25,11 +26,12 @@ are_same (x ∷ xs) [] = false
 
 -- The freedom by which an answer differs: in its first line, which is the drive's. Lines behind it are
 -- of the audit.
-abbrev pub freedom_of : List Freedom → List ℕ → List (List ℕ) → List (List ℕ) → Option Freedom
-freedom_of freedoms asked (x ∷ xs) (y ∷ ys) =
-    if are_same xs ys then freedom_between freedoms asked x y else None
-freedom_of freedoms asked (x ∷ xs) [] = None
-freedom_of freedoms asked [] wanted = None
+abbrev pub freedom_of : List Freedom → List ℕ → List (List ℕ) → List (List ℕ) → List ℕ
+    → Option Freedom
+freedom_of freedoms asked (x ∷ xs) (y ∷ ys) other =
+    if are_same xs ys then freedom_between freedoms asked x y other else None
+freedom_of freedoms asked (x ∷ xs) [] other = None
+freedom_of freedoms asked [] wanted other = None
 
 -- lines in one, with a comma between each two
 abbrev pub behind_commas : List (List ℕ) → List ℕ
@@ -56,10 +58,10 @@ verdict_beside (Some freedom) heard wanted reasons = Allowed freedom
 verdict_beside None heard wanted reasons = Wrong (wrong_text heard wanted reasons)
 
 abbrev pub answers_verdict : List Freedom → List ℕ → List (List ℕ) → List (List ℕ) → List ℕ
-    → Verdict
-answers_verdict freedoms asked heard wanted reasons =
+    → List ℕ → Verdict
+answers_verdict freedoms asked heard wanted other reasons =
     if are_same heard wanted then Agrees
-    else verdict_beside (freedom_of freedoms asked heard wanted) heard wanted reasons
+    else verdict_beside (freedom_of freedoms asked heard wanted other) heard wanted reasons
 
 -- the script before a line, and the line
 abbrev pub through : List ℕ → Entry → List ℕ
@@ -70,29 +72,35 @@ abbrev pub wanted_at : Config → List ℕ → Entry → List (List ℕ)
 wanted_at config before entry =
     wanted_of entry.answers (said_behind config before (through before entry))
 
-abbrev pub entry_verdict : Config → List Freedom → List ℕ → Entry → Verdict
-entry_verdict config freedoms before entry =
-    answers_verdict freedoms entry.line entry.answers (wanted_at config before entry)
-    (reasons_behind config before (through before entry))
+-- what the model says first where every write before wrote another byte
+abbrev pub other_at : Config → List ℕ → Entry → List ℕ
+other_at config other entry =
+    first_answer (said_behind config other (other ++ other_line entry.line ++ 13 ∷ 10 ∷ []))
 
-abbrev pub ruling_at : Config → List Freedom → List ℕ → Entry → Ruling
-ruling_at config freedoms before entry =
-    record { number = entry.number; verdict = entry_verdict config freedoms before entry }
+abbrev pub entry_verdict : Config → List Freedom → List ℕ → List ℕ → Entry → Verdict
+entry_verdict config freedoms before other entry =
+    answers_verdict freedoms entry.line entry.answers (wanted_at config before entry)
+    (other_at config other entry) (reasons_behind config before (through before entry))
+
+abbrev pub ruling_at : Config → List Freedom → List ℕ → List ℕ → Entry → Ruling
+ruling_at config freedoms before other entry =
+    record { number = entry.number; verdict = entry_verdict config freedoms before other entry }
 
 -- a line without answers is not judged: what the drive said was not seen, and is taken for the model's
-abbrev pub rulings_at : Config → List Freedom → List ℕ → Entry → List Ruling
-rulings_at config freedoms before entry =
-    if length entry.answers == 0 then [] else ruling_at config freedoms before entry ∷ []
+abbrev pub rulings_at : Config → List Freedom → List ℕ → List ℕ → Entry → List Ruling
+rulings_at config freedoms before other entry =
+    if length entry.answers == 0 then [] else ruling_at config freedoms before other entry ∷ []
 
 -- behind each line the model goes on by its own answer
 abbrev pub with_entry : Config → List Freedom → Judging → Entry → Judging
 with_entry config freedoms judging entry = record {
   script = judging.script ++ entry.script;
-  rulings = judging.rulings ++ rulings_at config freedoms judging.script entry;
+  other = judging.other ++ other_text entry;
+  rulings = judging.rulings ++ rulings_at config freedoms judging.script judging.other entry;
 }
 
 abbrev pub nothing_judged : Judging
-nothing_judged = record { script = []; rulings = [] }
+nothing_judged = record { script = []; other = []; rulings = [] }
 
 abbrev pub rulings_of : Config → List Freedom → List Entry → List Ruling
 rulings_of config freedoms entries =

@@ -13,31 +13,31 @@ use Rattle.judged.specs.declared.ruling.Verdict.TheVariants.{Agrees, Allowed}
 
 -- two answers to a line differ by this freedom alone: their first lines do, which are the drive's, and
 -- the lines behind them are the same
-abbrev pub DiffersBy : List ℕ → List (List ℕ) → List (List ℕ) → Freedom → Type 0
-DiffersBy asked heard wanted freedom =
+abbrev pub DiffersBy : List ℕ → List (List ℕ) → List (List ℕ) → List ℕ → Freedom → Type 0
+DiffersBy asked heard wanted other freedom =
     (x : List ℕ) × (y : List ℕ) × (rest : List (List ℕ)) × (heard ≡ x ∷ rest)
-    × (wanted ≡ y ∷ rest) × (is_by asked x y freedom ≡ true)
+    × (wanted ≡ y ∷ rest) × (is_by asked x y other freedom ≡ true)
 
 -- answers agree exactly if they are what must be said
 abbrev pub AgreesLaw : Type 0
 AgreesLaw = (freedoms : List Freedom) (asked : List ℕ) (heard wanted : List (List ℕ))
-    (reasons : List ℕ)
-    → (answers_verdict freedoms asked heard wanted reasons ≡ Agrees) ↔ (heard ≡ wanted)
+    (other reasons : List ℕ)
+    → (answers_verdict freedoms asked heard wanted other reasons ≡ Agrees) ↔ (heard ≡ wanted)
 
 -- where they are allowed, they differ, by the freedom that is named, which is given
 abbrev pub AllowsLaw : Type 0
 AllowsLaw = (freedoms : List Freedom) (asked : List ℕ) (heard wanted : List (List ℕ))
-    (reasons : List ℕ) (freedom : Freedom)
-    → answers_verdict freedoms asked heard wanted reasons ≡ Allowed freedom
-    → (heard ≢ wanted) × Contains freedoms freedom × DiffersBy asked heard wanted freedom
+    (other reasons : List ℕ) (freedom : Freedom)
+    → answers_verdict freedoms asked heard wanted other reasons ≡ Allowed freedom
+    → (heard ≢ wanted) × Contains freedoms freedom × DiffersBy asked heard wanted other freedom
 
 -- they are wrong exactly if they differ, and by none of the freedoms that are given alone
 abbrev pub WrongLaw : Type 0
 WrongLaw = (freedoms : List Freedom) (asked : List ℕ) (heard wanted : List (List ℕ))
-    (reasons : List ℕ)
-    → (is_wrong (answers_verdict freedoms asked heard wanted reasons) ≡ true)
+    (other reasons : List ℕ)
+    → (is_wrong (answers_verdict freedoms asked heard wanted other reasons) ≡ true)
     ↔ ((heard ≢ wanted) × ((freedom : Freedom) → Contains freedoms freedom
-    → DiffersBy asked heard wanted freedom → ⊥))
+    → DiffersBy asked heard wanted other freedom → ⊥))
 
 -- a freedom is named by its name
 abbrev pub NamesLaw : Type 0

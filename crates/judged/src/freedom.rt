@@ -1,8 +1,9 @@
 //! What the standards leave to a drive.
 
-ghost use Rattle.std.specs.Prelude.{◌≡◌, take};
-ghost use Rattle.judged.specs.Freedoms.{error_in, are_open_bits, are_open_errors, differs_by_error_bits, has_digit, has_some_digit, is_digit, may_stand, differs_within, asks_level0, asks_identity};
+ghost use Rattle.std.specs.Prelude.{◌≡◌};
+ghost use Rattle.judged.specs.Freedoms.{error_in, are_open_bits, are_open_errors, differs_by_error_bits, has_digit, has_some_digit, may_stand, differs_within, asks_level0, asks_identity};
 
+use crate::blanks::{differs_by_blanks, front, is_digit};
 use script_lines::Words;
 use std::alloc::{AllocError, Global};
 use std::marker::Model;
@@ -13,6 +14,9 @@ use thiserror::Error;
 pub enum Freedom {
     /// Bits of the Error field that have no meaning, beside ABRT (ACS-3, section 6.3).
     ErrorBits,
+    /// What sectors hold that nothing has written, or that an erasure wiped: no command of ACS-3 says it, nor does Opal SSC
+    /// 2.01 (section 5.1.2).
+    BlankSectors,
     /// Bytes 16 to 47 of Level 0 discovery, which are the vendor's (TCG Core 2.01, section 3.3.6).
     VendorBytes,
     /// The serial number, the firmware's version, the model number and the World Wide Name (ACS-3, IDENTIFY DEVICE).
@@ -29,7 +33,12 @@ const ABORT_BIT: u8 = 4;
 const ERROR_PLACE: usize = 8;
 
 /// All that the model knows.
-const ALL_FREEDOMS: [Freedom; 3] = [Freedom::ErrorBits, Freedom::VendorBytes, Freedom::Identity];
+const ALL_FREEDOMS: [Freedom; 4] = [
+    Freedom::ErrorBits,
+    Freedom::BlankSectors,
+    Freedom::VendorBytes,
+    Freedom::Identity,
+];
 
 /// The error in a line `fail 51 04`.
 fn error_in(line: &[u8]) -> Option<u8>
@@ -58,13 +67,6 @@ fn are_open_errors(heard: Option<u8>, wanted: Option<u8>) -> bool
         (Some(heard), Some(wanted)) => are_open_bits(heard, wanted),
         _ => false,
     }
-}
-
-/// The first bytes of a line, as far as there are so many.
-fn front(line: &[u8], size: usize) -> &[u8]
-    ensures { result.now ≡ take size line.now }
-{
-    &line[..size.min(line.len())]
 }
 
 /// Whether a failure differs from another in bits of its error alone that have no meaning.
@@ -126,13 +128,6 @@ fn has_some_digit(spans: &[Span], place: usize) -> bool
     false
 }
 
-/// Whether a byte is a hex digit, as it is printed.
-fn is_digit(byte: u8) -> bool
-    ensures { result ≡ is_digit byte }
-{
-    (b'0' <= byte && byte <= b'9') || (b'a' <= byte && byte <= b'f')
-}
-
 /// Whether a line may have this byte at a place, where another has that one.
 fn may_stand(spans: &[Span], place: usize, heard: u8, wanted: u8) -> bool
     ensures { result ≡ may_stand spans.now place heard wanted }
@@ -177,11 +172,12 @@ impl Freedom {
     ghost use Rattle.judged.specs.Freedoms.{is_by, freedom_name, freedom_named};
 
     /// Whether the answer of a drive to a line differs from the model's by this freedom alone.
-    fn is_by(self, asked: &[u8], heard: &[u8], wanted: &[u8]) -> bool
-        ensures { result ≡ is_by asked.now heard.now wanted.now self }
+    fn is_by(self, asked: &[u8], heard: &[u8], wanted: &[u8], other: &[u8]) -> bool
+        ensures { result ≡ is_by asked.now heard.now wanted.now other.now self }
     {
         match self {
             Freedom::ErrorBits => differs_by_error_bits(heard, wanted),
+            Freedom::BlankSectors => differs_by_blanks(heard, wanted, other),
             Freedom::VendorBytes => {
                 asks_level0(asked) && differs_within(&VENDOR_SPANS, heard, wanted)
             }
@@ -197,6 +193,7 @@ impl Freedom {
     {
         match self {
             Freedom::ErrorBits => b"error-bits",
+            Freedom::BlankSectors => b"blank-sectors",
             Freedom::VendorBytes => b"vendor-bytes",
             Freedom::Identity => b"identity",
         }
@@ -208,6 +205,8 @@ impl Freedom {
     {
         if name == b"error-bits".as_slice() {
             Some(Freedom::ErrorBits)
+        } else if name == b"blank-sectors".as_slice() {
+            Some(Freedom::BlankSectors)
         } else if name == b"vendor-bytes".as_slice() {
             Some(Freedom::VendorBytes)
         } else if name == b"identity".as_slice() {
@@ -238,7 +237,7 @@ impl Model for Freedoms {
 pub enum FreedomFault {
     #[error("out of memory")]
     OutOfMemory,
-    #[error("--freedom is none of error-bits, vendor-bytes and identity")]
+    #[error("--freedom is none of error-bits, blank-sectors, vendor-bytes and identity")]
     Unknown,
 }
 
@@ -315,12 +314,19 @@ impl Freedoms {
         Freedoms::named(alloc, names)
     }
 
-    /// The first by which the answer of a drive to a line differs from the model's.
-    pub fn between(&self, asked: &[u8], heard: &[u8], wanted: &[u8]) -> Option<Freedom>
-        ensures { result ≡ freedom_between self.now asked.now heard.now wanted.now }
+    /// The first by which the answer of a drive to a line differs from the model's, which answers `other` if every write
+    /// before writes another byte.
+    pub fn between(
+        &self,
+        asked: &[u8],
+        heard: &[u8],
+        wanted: &[u8],
+        other: &[u8],
+    ) -> Option<Freedom>
+        ensures { result ≡ freedom_between self.now asked.now heard.now wanted.now other.now }
     {
         for freedom in &self.items {
-            if freedom.is_by(asked, heard, wanted) {
+            if freedom.is_by(asked, heard, wanted, other) {
                 return Some(*freedom);
             }
         }

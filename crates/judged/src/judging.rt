@@ -1,9 +1,11 @@
 //! The answers of a transcript, judged one after the other.
 
 ghost use Rattle.std.specs.Prelude.{◌≡◌, ◌++◌, ◌∷◌, IfOk, OnOk};
-ghost use Rattle.judged.specs.Judgements.{are_same, freedom_of, behind_commas, joined_answer, answer_behind_words, wrong_text, entry_verdict, rulings_of};
+ghost use Rattle.judged.specs.Answers.{reasons_behind};
+ghost use Rattle.judged.specs.Judgements.{are_same, freedom_of, behind_commas, joined_answer, answer_behind_words, wrong_text, other_at, verdict_beside, entry_verdict, rulings_of};
 
 use crate::answers::{reasons_behind, said_behind, wanted_of};
+use crate::blanks::{append_other_line, append_other_text, first_answer};
 use crate::entry::Entry;
 use crate::freedom::{Freedom, Freedoms};
 use crate::ruling::{Ruling, Rulings, Verdict};
@@ -33,15 +35,16 @@ fn freedom_of(
     asked: &[u8],
     heard: &[Bytes],
     wanted: &[Bytes],
+    other: &[u8],
 ) -> Option<Freedom>
-    ensures { result ≡ freedom_of freedoms.now asked.now heard.now wanted.now }
+    ensures { result ≡ freedom_of freedoms.now asked.now heard.now wanted.now other.now }
 {
     match (heard, wanted) {
         ([x, xs @ ..], [y, ys @ ..]) => {
             if !are_same(xs, ys) {
                 return None;
             }
-            freedoms.between(asked, x.as_slice(), y.as_slice())
+            freedoms.between(asked, x.as_slice(), y.as_slice(), other)
         }
         _ => None,
     }
@@ -103,6 +106,48 @@ fn wrong_text(
     Ok(text.into_bytes())
 }
 
+/// What the model says first to a line where every write before wrote another byte.
+fn other_at(
+    alloc: Global,
+    options: &Options,
+    other: &[u8],
+    entry: &Entry,
+) -> Result<Bytes, RunError>
+    ensures { IfOk result (λ line. line ≡ other_at options.now other.now entry.now) }
+{
+    let mut whole = Text::new(alloc);
+    whole.append(other)?;
+    append_other_line(&mut whole, entry.line.as_slice())?;
+    whole.append(b"\r\n")?;
+    let said = said_behind(alloc, options, other, whole.as_slice())?;
+    let line = Vec::from_slice(alloc, first_answer(said.as_slice()))?;
+    Ok(Bytes::from_vec(line))
+}
+
+/// How answers stand to what must be said, from which they differ.
+fn verdict_beside(
+    alloc: Global,
+    options: &Options,
+    entry: &Entry,
+    freedom: Option<Freedom>,
+    wanted: &[Bytes],
+    before: &[u8],
+    whole: &[u8],
+) -> Result<Verdict, RunError>
+    ensures { IfOk result (λ verdict. verdict ≡ verdict_beside freedom entry.now.answers wanted.now
+        (reasons_behind options.now before.now whole.now)) }
+{
+    match freedom {
+        Some(freedom) => Ok(Verdict::Allowed(freedom)),
+        None => {
+            let reasons = reasons_behind(alloc, options, before, whole)?;
+            let heard = entry.answers.as_slice();
+            let text = wrong_text(alloc, heard, wanted, reasons.as_slice())?;
+            Ok(Verdict::Wrong(text))
+        }
+    }
+}
+
 /// How the answers to a line stand to what must be said.
 fn verdict_on(
     alloc: Global,
@@ -110,9 +155,10 @@ fn verdict_on(
     freedoms: &Freedoms,
     entry: &Entry,
     before: &[u8],
+    other: &[u8],
 ) -> Result<Verdict, RunError>
     ensures { IfOk result (λ verdict. verdict
-        ≡ entry_verdict options.now freedoms.now before.now entry.now) }
+        ≡ entry_verdict options.now freedoms.now before.now other.now entry.now) }
 {
     let line = entry.line.as_slice();
     let mut whole = Text::new(alloc);
@@ -122,17 +168,13 @@ fn verdict_on(
     let said = said_behind(alloc, options, before, whole)?;
     let heard = entry.answers.as_slice();
     let wanted = wanted_of(alloc, heard, said.as_slice())?;
-    if are_same(heard, wanted.as_slice()) {
+    let wanted = wanted.as_slice();
+    if are_same(heard, wanted) {
         return Ok(Verdict::Agrees);
     }
-    match freedom_of(freedoms, line, heard, wanted.as_slice()) {
-        Some(freedom) => Ok(Verdict::Allowed(freedom)),
-        None => {
-            let reasons = reasons_behind(alloc, options, before, whole)?;
-            let text = wrong_text(alloc, heard, wanted.as_slice(), reasons.as_slice())?;
-            Ok(Verdict::Wrong(text))
-        }
-    }
+    let other = other_at(alloc, options, other, entry)?;
+    let freedom = freedom_of(freedoms, line, heard, wanted, other.as_slice());
+    verdict_beside(alloc, options, entry, freedom, wanted, before, whole)
 }
 
 /// How far a transcript is judged.
@@ -140,6 +182,8 @@ fn verdict_on(
 pub struct Judging {
     /// The text of the script so far.
     pub script: Text,
+    /// The same, with another byte in each line that writes one.
+    pub other: Text,
     pub rulings: Rulings,
 }
 
@@ -153,6 +197,7 @@ impl Judging {
     {
         Judging {
             script: Text::new(alloc),
+            other: Text::new(alloc),
             rulings: Rulings::new(alloc),
         }
     }
@@ -166,11 +211,13 @@ impl Judging {
         entry: &Entry,
     ) -> Result<(), RunError>
         ensures script { self.new.script ≡ self.old.script }
+        ensures other { self.new.other ≡ self.old.other }
         ensures rulings { OnOk result (self.new.rulings ≡ self.old.rulings
-            ++ ruling_at options.now freedoms.now self.old.script entry.now ∷ []) }
+            ++ ruling_at options.now freedoms.now self.old.script self.old.other entry.now ∷ []) }
     {
         let before = self.script.as_slice();
-        let verdict = verdict_on(alloc, options, freedoms, entry, before)?;
+        let other = self.other.as_slice();
+        let verdict = verdict_on(alloc, options, freedoms, entry, before, other)?;
         self.rulings.push(Ruling {
             number: entry.number,
             verdict,
@@ -192,6 +239,7 @@ impl Judging {
             self.judge(alloc, options, freedoms, entry)?;
         }
         self.script.append(entry.script.as_slice())?;
+        append_other_text(&mut self.other, entry)?;
         Ok(())
     }
 }

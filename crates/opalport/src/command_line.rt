@@ -397,7 +397,7 @@ fn judge_command<'a>(alloc: Global) -> Result<Command<'a>, AllocError>
     ensures { IfOk result (λ command. app_of command ≡ judge_line) }
 {
     let about = "Judges what another drive answered to a script, from standard input";
-    let freedom = "Gives this freedom alone: error-bits, vendor-bytes or identity; without it all";
+    let freedom = "Gives this freedom alone, of those below; without it all";
     let c = drive_command(alloc, "judge", about, TRANSCRIPTS)?;
     let c = with_repeated(alloc, c, "freedom", "NAME", freedom)?;
     let c = with_flag(c, alloc, "strict", "Gives no freedom")?;
