@@ -51,6 +51,14 @@ static void *remedy(void *it) { code = opal_remedy(&handle, 0, text, sizeof text
 static void *failure(void *it) { code = opal_drive_failure(&handle).code; return it; }
 static void *reset(void *it) { code = opal_drive_reset(&handle, OPAL_POWER_CYCLE); return it; }
 static void *tokens(void *it) { code = opal_tokens_text(1, many, sizeof many, text, sizeof text).code; return it; }
+
+static void *named(void *it)
+{
+    static const char line[] = "set 1 Locking_Range1 ReadLocked=0 WriteLocked=0";
+    code = opal_call_named(line, sizeof line - 1, text, sizeof text).code;
+    return it;
+}
+
 static void *decoded(void *it) { code = opal_decoded_text(OPAL_FIS, fis, sizeof fis, text, sizeof text).code; return it; }
 
 static void *port_put(void *it)
@@ -87,6 +95,14 @@ static void *hba_start(void *it)
 }
 
 static void *hba_turn(void *it) { code = opal_hba_turn(&handle, 0, BASE, memory, sizeof memory).code; return it; }
+
+static void *hba_within(void *it)
+{
+    static const opal_region region = { BASE, sizeof memory };
+    code = opal_hba_turn_within(&handle, 0, BASE, memory, sizeof memory, &region, 1).code;
+    return it;
+}
+
 static void *hba_issue(void *it) { code = opal_hba_write(&handle, PxCI, 1); return it; }
 static void *hba_read(void *it) { code = opal_hba_read(&handle, PxCI).code; return it; }
 static void *hba_interrupt(void *it) { code = opal_hba_interrupt(&handle).code; return it; }
@@ -136,7 +152,7 @@ int main(void)
     memset(many, 0xf0, sizeof many);
     least = taken(nothing);
     config.ranges = &locked, config.range_count = 1;
-    RUN(version), RUN(tokens);
+    RUN(version), RUN(tokens), RUN(named);
     RUN(drive_new), RUN(about), RUN(media);
     RUN(frame), RUN(opened), RUN(send_fis), RUN(send_block), RUN(receive_fis), RUN(accepts), RUN(data);
     RUN(read_fis), RUN(decoded), RUN(payload), RUN(accepts), RUN(expects), RUN(completes), RUN(failure), RUN(reset);
@@ -146,7 +162,7 @@ int main(void)
     RUN(port_put), RUN(port_ready), RUN(port_issue), RUN(port_accept), RUN(port_complete), RUN(port_take), RUN(port_data);
     RUN(port_put), RUN(port_turn), RUN(port_shown), RUN(port_denial), RUN(port_denied), RUN(port_denials), RUN(port_recover), RUN(port_reset), RUN(frees);
     RUN(hba_new);
-    RUN(hba_start), RUN(hba_turn), RUN(hba_issue), RUN(hba_turn), RUN(hba_read), RUN(hba_interrupt), RUN(hba_denial), RUN(hba_denied);
+    RUN(hba_start), RUN(hba_turn), RUN(hba_issue), RUN(hba_within), RUN(hba_read), RUN(hba_interrupt), RUN(hba_denial), RUN(hba_denied);
     RUN(hba_cycle), RUN(frees);
     fprintf(stderr, "stack: at most %zu bytes in any call\n", most);
     return wrong;

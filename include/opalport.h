@@ -304,6 +304,12 @@ typedef struct opal_worked {
     bool denied;  /* the command that was fetched, or what it sent, was denied: opal_hba_denial tells by what */
 } opal_worked;
 
+/* A region of a host's memory: the address of its first byte, and how many bytes it has. */
+typedef struct opal_region {
+    uint64_t begin;
+    uint64_t length;
+} opal_region;
+
 /* What a frame carries, and for whom; the payload stands in the bytes that were opened. */
 typedef struct opal_carried {
     opal_code code;
@@ -451,11 +457,14 @@ opal_code opal_raw_hba_write(opal_raw_object *object, uint32_t offset, uint32_t 
 opal_count opal_raw_hba_interrupt(opal_raw_object *object);
 opal_code opal_raw_hba_power_cycle(opal_raw_object *object);
 opal_worked opal_raw_hba_turn(opal_raw_object *object, size_t choice, uint32_t base, uint8_t *memory, size_t length);
+opal_worked opal_raw_hba_turn_within(opal_raw_object *object, size_t choice, uint32_t base, uint8_t *memory, size_t length,
+                                     const opal_region *regions, size_t region_count);
 opal_count opal_raw_hba_denial(opal_raw_object *object, uint8_t *into, size_t length);
 opal_denied opal_raw_hba_denied(opal_raw_object *object);
 
 opal_count opal_raw_tokens(bool by_name, const uint8_t *bytes, size_t bytes_length, uint8_t *into, size_t length);
 opal_count opal_raw_decoded(uint32_t kind, const uint8_t *bytes, size_t bytes_length, uint8_t *into, size_t length);
+opal_count opal_raw_call_named(const uint8_t *line, size_t line_length, uint8_t *into, size_t length);
 opal_count opal_raw_frame(uint16_t com_id, uint32_t tsn, uint32_t hsn, const uint8_t *payload, size_t payload_length,
                           uint8_t *into, size_t length);
 opal_carried opal_raw_opened(const uint8_t *bytes, size_t length);
@@ -1101,6 +1110,29 @@ OPAL_MUST_USE static inline opal_worked opal_hba_turn(opal_handle *hba, size_t c
     return told;
 }
 
+/* The same, where of those bytes the ones that lie in the regions alone are memory: what the host's memory is where it has
+   holes, mapped at their places in one window. An access is answered where all its bytes lie in one region, so regions that
+   touch are to be told as one; any other access finds no memory, as one outside the window. Without a region there is none.
+   Refused also: OPAL_NULL, OPAL_MISALIGNED and OPAL_LENGTH of the regions, OPAL_SHARED where they stand in the memory. */
+OPAL_MUST_USE static inline opal_worked opal_hba_turn_within(opal_handle *hba, size_t choice, uint32_t base, void *memory,
+                                                             size_t length, const opal_region *regions, size_t region_count)
+{
+    opal_raw_call call;
+    size_t size = region_count > SIZE_MAX / 2 / sizeof *regions ? SIZE_MAX : region_count * sizeof *regions;
+    opal_code fault = opal_raw_into(hba, memory, length);
+    if (fault == OPAL_DONE)
+        fault = opal_raw_between(regions, size, memory, length);
+    if (fault == OPAL_DONE && (uintptr_t)regions % sizeof(uint64_t) != 0)
+        fault = OPAL_MISALIGNED;
+    opal_worked told = { opal_raw_begin(&call, hba, fault), 0, 0, 0, false };
+    if (told.code != OPAL_DONE)
+        return told;
+    told = opal_raw_hba_turn_within(&call.object, choice, base, opal_raw_at(memory), length,
+                                    (const opal_region *)(const void *)opal_raw_at(regions), region_count);
+    opal_raw_end(&call);
+    return told;
+}
+
 /* Copies the line of the audit log that tells what denied the command of the last turn, as
    `1 0 deny read 100+1 range 1 ReadLocked`: the number of the drive's act, the tag and the reason; no bytes, where nothing
    did. It has no zero behind it. Refused: OPAL_ROOM, OPAL_OUT_OF_MEMORY. */
@@ -1149,6 +1181,18 @@ OPAL_MUST_USE static inline opal_count opal_decoded_text(uint32_t kind, const vo
     if (refused.code != OPAL_DONE)
         return refused;
     return opal_raw_decoded(kind, opal_raw_at(bytes), bytes_length, opal_raw_at(into), length);
+}
+
+/* The tokens of the call that a line writes by name, as a script has it: `start 1 4096 LockingSP Admin1 "secret"`,
+   `set 1 Locking_Range1 ReadLocked=0`, `end 1`. The client's number stands in it, and at `start` the ComID; no token tells them.
+   opal_frame makes the ComPacket of the session. Refused: OPAL_MALFORMED where the line writes no call, OPAL_ROOM,
+   OPAL_OUT_OF_MEMORY. */
+OPAL_MUST_USE static inline opal_count opal_call_named(const char *line, size_t line_length, void *into, size_t length)
+{
+    opal_count refused = { opal_raw_between(line, line_length, into, length), 0 };
+    if (refused.code != OPAL_DONE)
+        return refused;
+    return opal_raw_call_named(opal_raw_at(line), line_length, opal_raw_at(into), length);
 }
 
 /* The frame of a payload of 1 to 65,480 bytes: a ComPacket of one packet of a session with one data subpacket (TCG Core

@@ -8,7 +8,7 @@
 
 enum { BASE = 0x100000, LIST = 0, RECEIVED = 0x1000, TABLE = 0x2000, DATA = 0x3000, SIZE = 0x4000 };
 enum { PxCLB = 0x100, PxFB = 0x108, PxIS = 0x110, PxIE = 0x114, PxCMD = 0x118, PxTFD = 0x120, PxSERR = 0x130, PxCI = 0x138, GHC = 0x4, IS = 0x8 };
-enum { ST = 0x1, FRE = 0x10, TASK_ERROR = 0x40000000, AE_IE = (int)0x80000002 };
+enum { ST = 0x1, FRE = 0x10, TASK_ERROR = 0x40000000, BUS_ERROR = 0x20000000, AE_IE = (int)0x80000002 };
 
 static uint8_t memory[SIZE];
 static opal_handle hba = OPAL_NONE;
@@ -39,8 +39,8 @@ static void put_word(size_t at, uint32_t value)
         memory[at + i] = (uint8_t)(value >> 8 * i);
 }
 
-/* READ DMA EXT of one sector in slot 0: a header, a FIS, one descriptor; and the turn that fetches it. */
-static opal_worked read_sector(uint8_t sector)
+/* READ DMA EXT of one sector in slot 0: a header, a FIS, one descriptor. */
+static void issue_read(uint8_t sector)
 {
     static const uint8_t fis[] = { 0x27, 0x80, 0x25, 0, 0, 0, 0, 0x40, 0, 0, 0, 0, 1 };
     put_word(LIST, 5 | 1 << 16); /* CFL, PRDTL */
@@ -51,11 +51,31 @@ static opal_worked read_sector(uint8_t sector)
     put_word(TABLE + 0x8c, 511);
     memset(memory + DATA, 0xff, 512);
     write_register(PxCI, 1);
+}
+
+/* The same, and the turn that fetches it. */
+static opal_worked read_sector(uint8_t sector)
+{
+    issue_read(sector);
     opal_worked worked = opal_hba_turn(&hba, 0, BASE, memory, sizeof memory);
     must(worked.code == OPAL_DONE && worked.work == OPAL_WORK_FETCH && worked.tag == 0, "slot 0 was not fetched");
     printf("sector %d: went %d, PxCI %x, PxTFD %04x, interrupt %d\n", sector, worked.went, (unsigned)read_register(PxCI),
            (unsigned)read_register(PxTFD), (int)opal_hba_interrupt(&hba).number);
     return worked;
+}
+
+/* Of the host's memory the sector's place is none: the port halts, and tells a fatal error of the bus. */
+static void read_into_a_hole(void)
+{
+    static const opal_region regions[] = { { BASE, DATA }, { BASE + DATA + 510, SIZE - DATA - 510 } };
+    issue_read(0);
+    opal_worked worked = opal_hba_turn_within(&hba, 0, BASE, memory, sizeof memory, regions, 2);
+    must(worked.code == OPAL_DONE && worked.went == OPAL_WENT_NO_DATA && memory[DATA] == 0xff, "data went into a hole");
+    must(read_register(PxIS) & BUS_ERROR, "PxIS tells no error of the bus");
+    printf("sector 0 into a hole: went %d\n", worked.went);
+    must(opal_hba_turn_within(&hba, 0, BASE, memory, sizeof memory, NULL, 1).code == OPAL_NULL, "null regions are taken");
+    must(opal_hba_turn_within(&hba, 0, BASE, memory, sizeof memory, (const opal_region *)(const void *)memory, 1).code == OPAL_SHARED,
+         "regions in the memory are taken");
 }
 
 int main(void)
@@ -90,6 +110,7 @@ int main(void)
     must(opal_hba_turn(&hba, 0, BASE, memory, sizeof memory).work == OPAL_WORK_NONE, "something is left to do");
     must(opal_hba_turn(&hba, 0, BASE, NULL, 1).code == OPAL_NULL, "a null memory is taken");
     must(opal_hba_turn(&hba, 0, BASE, &hba, sizeof hba).code == OPAL_SHARED, "the handle is taken for memory");
+    read_into_a_hole();
     opal_about about = opal_about_handle(&hba);
     must(about.kind == OPAL_HBA && about.sectors == 1000 && about.profile == OPAL_BASE, "the handle has something else");
 

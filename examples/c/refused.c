@@ -130,6 +130,7 @@ static void pointers(void)
     tell("data into the handle", opal_drive_data(&drive, &drive, sizeof drive).code);
     tell("a frame where its payload stands", opal_frame(OPAL_COM_ID, 1, 2, bytes, 2, bytes, sizeof bytes).code);
     tell("a text where its bytes stand", opal_tokens_text(0, bytes, 2, (char *)bytes + 1, 64).code);
+    tell("a line that writes no call", opal_call_named("set 1 Locking_Range1 ReadLocked", 31, bytes, sizeof bytes).code);
     tell("a buffer of SIZE_MAX bytes", opal_drive_data(&drive, bytes, SIZE_MAX).code);
     tell("a null buffer", opal_drive_data(&drive, NULL, 1).code);
     must(opal_frame(OPAL_COM_ID, 1, 2, bytes, 2, bytes + 2, sizeof bytes - 2).code == OPAL_DONE, "a frame beside its payload");

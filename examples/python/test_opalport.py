@@ -9,7 +9,7 @@ import threading
 import unittest
 
 from opalport import (Code, Command, Denied, Drive, EngineStep, Failure, Hba, Kind, OpalError, Port, Range, Reason, Reset, Taken,
-                      Went, Work, Worked, command_fis, decoded_text, frame, library_version, opened, tokens_text, trusted_fis)
+                      Went, Work, Worked, call_named, command_fis, decoded_text, frame, library_version, opened, tokens_text, trusted_fis)
 from opalport_pipe import PipedDrive
 
 LOCKED = Range(1, 100, 10, True, True, True, True)
@@ -219,6 +219,14 @@ class OnADrive(unittest.TestCase):
         self.assertIn("Set", tokens_text(UNLOCK, by_name=True))
         self.assertIn("LBA 100\n", decoded_text(Kind.FIS, read(100)))
 
+    def test_a_call_by_name(self):
+        self.assertEqual(call_named("set 1 Locking_Range1 ReadLocked=0 WriteLocked=0"), UNLOCK)
+        self.assertEqual(call_named("end 1"), b"\xfa")
+        for line in ("", "set 1 Locking_Range1 ReadLocked", "set Locking_Range1 ReadLocked=0", "set 1 Locking_Range17 ReadLocked=0", "\u00e9"):
+            with self.subTest(line=line), self.assertRaises(OpalError) as it:
+                call_named(line)
+            self.assertEqual(it.exception.code, Code.MALFORMED)
+
     def test_two_drives_in_two_threads(self):
         told = []
 
@@ -383,6 +391,27 @@ class OnAController(unittest.TestCase):
         self.assertEqual(self.read(0), Worked(Work.FETCH, 0, Went.SERVED, False))
         self.assertEqual(self.memory[0x3000:0x3200], bytes(SECTOR))
         self.assertEqual(self.hba.turn(self.memory, self.BASE).work, Work.NONE)
+
+    def test_what_lies_in_no_region_is_no_memory(self):
+        self.start()
+        whole = [(self.BASE, 0x4000)]
+        for regions, went in (
+            (whole, Went.SERVED),
+            ([(self.BASE, 0x3000), (self.BASE + 0x3000, 512)], Went.SERVED),
+            ([(self.BASE, 0x3000), (self.BASE + 0x3000, 511)], Went.NO_DATA),
+        ):
+            with self.subTest(regions=regions):
+                self.memory[0x3000:0x3200] = b"\xff" * SECTOR
+                self.put(0, 5 | 1 << 16, 0, self.BASE + 0x2000)
+                self.memory[0x2000:0x2014] = read(0)
+                self.put(0x2080, self.BASE + 0x3000, 0, 0, 511)
+                self.hba.write(self.PxCI, 1)
+                self.assertEqual(self.hba.turn(self.memory, self.BASE, regions=regions), Worked(Work.FETCH, 0, went, False))
+                served = went == Went.SERVED
+                self.assertEqual(self.memory[0x3000:0x3200], bytes(SECTOR) if served else b"\xff" * SECTOR)
+        with self.assertRaises(OpalError) as it:
+            self.hba.turn(self.memory, self.BASE, regions=[(0, 2**64)])
+        self.assertEqual(it.exception.code, Code.NUMBER)
 
     def test_what_a_caller_gets_wrong_is_an_error(self):
         with self.assertRaises(OpalError) as it:

@@ -19,11 +19,11 @@ import os
 import threading
 from dataclasses import dataclass
 from types import TracebackType
-from typing import Any, List, Optional, Sequence, Tuple, Type, TypeVar, Union
+from typing import Any, Iterable, List, Optional, Sequence, Tuple, Type, TypeVar, Union
 
 __all__ = [
     "Answer", "Carried", "ClosedError", "Code", "Command", "Denied", "Drive", "EngineStep", "Failure", "Hba", "Kind", "OpalError",
-    "Port", "Range", "Reason", "Reset", "Shown", "Taken", "Went", "Work", "Worked", "command_fis", "decoded_text", "frame",
+    "Port", "Range", "Reason", "Reset", "Shown", "Taken", "Went", "Work", "Worked", "call_named", "command_fis", "decoded_text", "frame",
     "library_version", "opened", "tokens_text", "trusted_fis",
 ]
 
@@ -349,6 +349,10 @@ class _Range(ctypes.Structure):
                 ("read_locked", ctypes.c_uint8), ("write_locked", ctypes.c_uint8)]
 
 
+class _Region(ctypes.Structure):
+    _fields_ = [("begin", ctypes.c_uint64), ("length", ctypes.c_uint64)]
+
+
 class _Answer(ctypes.Structure):
     _fields_ = [("code", ctypes.c_uint32), ("status", ctypes.c_uint8), ("error", ctypes.c_uint8),
                 ("held", ctypes.c_bool), ("denied", ctypes.c_bool), ("length", ctypes.c_size_t)]
@@ -444,10 +448,15 @@ _CALLS = {
     "hba_interrupt": (_Count, _HANDLE),
     "hba_power_cycle": (ctypes.c_uint32, _HANDLE),
     "hba_turn": (_Worked, [*_HANDLE, ctypes.c_size_t, ctypes.c_uint32, *_BYTES]),
+    "hba_turn_within": (
+        _Worked,
+        [*_HANDLE, ctypes.c_size_t, ctypes.c_uint32, *_BYTES, ctypes.POINTER(_Region), ctypes.c_size_t],
+    ),
     "hba_denial": (_Count, [*_HANDLE, *_BYTES]),
     "hba_denied": (_Denied, _HANDLE),
     "tokens": (_Count, [ctypes.c_bool, *_BYTES, *_BYTES]),
     "decoded": (_Count, [ctypes.c_uint32, *_BYTES, *_BYTES]),
+    "call_named": (_Count, [*_BYTES, *_BYTES]),
     "frame": (_Count, [ctypes.c_uint16, ctypes.c_uint32, ctypes.c_uint32, *_BYTES, *_BYTES]),
     "opened": (_Carried, _BYTES),
     "command_fis": (_Count, [ctypes.c_uint32, ctypes.c_uint64, ctypes.c_uint32, ctypes.c_uint8, *_BYTES]),
@@ -548,6 +557,11 @@ def tokens_text(data: Bytes, by_name: bool = False) -> str:
 def decoded_text(kind: int, data: Bytes) -> str:
     """The fields of bytes, a line for each."""
     return _written(_LIBRARY.decoded, _within(kind, 2**32 - 1), *_bytes(data)).decode("utf-8")
+
+
+def call_named(line: str) -> bytes:
+    """The tokens of the call that a line writes by name, as a script has it: `set 1 Locking_Range1 ReadLocked=0`."""
+    return _written(_LIBRARY.call_named, *_bytes(line.encode("utf-8")))
 
 
 def frame(com_id: int, tsn: int, hsn: int, payload: Bytes) -> bytes:
@@ -832,13 +846,26 @@ class Hba(_Object):
         with self._lock:
             _check(_LIBRARY.hba_power_cycle(self._handle))
 
-    def turn(self, memory: Buffer, base: int = 0, choice: int = 0) -> Worked:
+    def turn(
+        self,
+        memory: Buffer,
+        base: int = 0,
+        choice: int = 0,
+        regions: Optional[Iterable[Tuple[int, int]]] = None,
+    ) -> Worked:
         """The controller does a work of those that are ready, the one of the number `choice`, modulo how many they are. The host's
-        memory is `memory`, from the address `base` on; it is read and written in this call alone."""
+        memory is `memory`, from the address `base` on; it is read and written in this call alone. With `regions`, each the address
+        of its first byte and how many bytes it has, the bytes that lie in them alone are memory: an access is answered where all
+        its bytes lie in one region, and any other finds no memory."""
         buffer, length = _room(memory)
         words = _within(choice, 2**64 - 1), _within(base, 2**32 - 1)
-        with self._lock:
-            told = _LIBRARY.hba_turn(self._handle, *words, buffer, length)
+        if regions is None:
+            with self._lock:
+                told = _LIBRARY.hba_turn(self._handle, *words, buffer, length)
+        else:
+            parts = [_Region(_within(begin, 2**64 - 1), _within(size, 2**64 - 1)) for begin, size in regions]
+            with self._lock:
+                told = _LIBRARY.hba_turn_within(self._handle, *words, buffer, length, (_Region * len(parts))(*parts), len(parts))
         _check(told.code)
         return Worked(Work(told.work), told.tag, Went(told.went), told.denied)
 

@@ -16,6 +16,7 @@ mod opening;
 mod payload;
 mod queue;
 mod reset;
+mod seen;
 mod stack;
 mod stored;
 mod transfer;

@@ -3,6 +3,7 @@ use Rattle.std.specs.Prelude.{◌≡◌, ℕ, List, [], Option, Some, None, Resu
 use Rattle.std.specs.declared.alloc.AllocError.{AllocError}
 use Rattle.audit.specs.AuditText.{line_text}
 use Rattle.audit.specs.declared.reason.AuditLine.{AuditLine}
+use Rattle.host_memory.specs.Access.{Access}
 use Rattle.library_calls.specs.Refusals.{done_code}
 use Rattle.hba.specs.History.{Adds, Wrote, Powered}
 use Rattle.hba.specs.declared.work.Turned.{Turned}
@@ -40,10 +41,10 @@ abbrev pub denied_text : Option AuditLine → List ℕ
 denied_text None = []
 denied_text (Some line) = line_text line
 
--- The controller did the work of a number over the bytes at a base address, told it, and keeps what denied its command.
-pub record TurnsDesk (old new : HbaDesk) (choice base : ℕ) (before after : List ℕ)
-    (worked : Worked) : Type 0 where
+-- The controller did the work of a number over bytes, by what an access makes of them, told it, and keeps what denied its command.
+pub record TurnsDesk (old new : HbaDesk) (choice : ℕ) (stands : List ℕ → Access → List ℕ → Type 0)
+    (before after : List ℕ) (worked : Worked) : Type 0 where
   pub outcome : Result (Option Turned) AllocError
   pub told : worked ≡ told_worked outcome
-  pub turned : TurnsOver choice base old.hba before new.hba after outcome
+  pub turned : TurnsOver choice stands old.hba before new.hba after outcome
   pub denied : new.denied ≡ denied_after new.hba.acts old.denied outcome

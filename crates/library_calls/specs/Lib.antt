@@ -12,4 +12,5 @@ pub mod Shown
 pub mod PortCallsTold
 pub mod HbaCallsDesk
 pub mod Over
+pub mod Regions
 pub mod Worked

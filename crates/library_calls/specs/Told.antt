@@ -1,13 +1,24 @@
--- Bytes as text.
-use Rattle.std.specs.Prelude.{◌≡◌, ℕ, ◌==◌, List, if◌then◌else◌, Option, Some, None}
+-- Bytes as text, and text as bytes.
+use Rattle.std.specs.Prelude.{◌≡◌, ◌⊎◌, ℕ, ◌==◌, List, if◌then◌else◌, Option, Some, None}
 use Rattle.decoded.specs.Faults.{BytesFault}
 use Rattle.decoded.specs.Decodings.{kind_fault, kind_lines}
 use Rattle.decoded.specs.declared.kind.Kind.{Kind}
 use Rattle.decoded.specs.declared.kind.Kind.TheVariants.{Level0, ComPacket, Fis, Identify, LogDirectory, QueuedError, DataPage}
 use Rattle.library_calls.specs.declared.byte_calls.count.Count.{Count}
-use Rattle.library_calls.specs.declared.byte_calls.error.CallError.TheVariants.{Number, Malformed}
+use Rattle.library_calls.specs.declared.byte_calls.error.CallError.TheVariants.{Number, Malformed, OutOfMemory}
+use Rattle.script_lines.specs.Said.{named_line_said}
+use Rattle.script_lines.specs.declared.named_lines.line.NamedLine.{NamedLine}
 use Rattle.library_calls.specs.Counts.{refused_count}
-use Rattle.library_calls.specs.Copies.{IsWrittenOut}
+use Rattle.library_calls.specs.Copies.{IsCopied, IsWrittenOut}
+
+-- The tokens of the call that a line writes by name are told, where it writes one.
+abbrev pub NamedOf : Option NamedLine → List ℕ → List ℕ → Count → Type 0
+NamedOf None old new count = (count ≡ refused_count Malformed) × (new ≡ old)
+NamedOf (Some line) old new count = IsCopied line.tokens old new count
+
+abbrev pub NamedAs : List ℕ → List ℕ → List ℕ → Count → Type 0
+NamedAs text old new count = NamedOf (named_line_said text) old new count
+    ⊎ ((count ≡ refused_count OutOfMemory) × (new ≡ old))
 
 -- what bytes are, by its number
 abbrev pub kind_numbered : ℕ → Option Kind

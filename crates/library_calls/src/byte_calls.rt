@@ -12,4 +12,4 @@ pub use count::{Count, DONE};
 pub use error::CallError;
 pub use frames::{Carried, frame_out, opened};
 pub use spelled::{Transfer, transfer_fis, trusted_fis};
-pub use texts::{decoded_out, tokens_out};
+pub use texts::{decoded_out, named_call_out, tokens_out};

@@ -2,7 +2,9 @@
 
 mod desk;
 mod over;
+mod regions;
 mod worked;
 
 pub use desk::HbaDesk;
+pub use regions::Region;
 pub use worked::Worked;

@@ -1,7 +1,8 @@
 //! The handlers of granted calls. In each, all that can fail comes before the first change.
 
-ghost use Rattle.std.specs.Prelude.{◌≡◌, ◌≢◌, ◌==◌, ◌↔◌, ◌+◌, ◌*◌, ◌≤◌, ◌<◌, ◌-◌, length, slice_index, ℕ, Err, [], ◌∷◌, Some, None, true, false, not, is_some, option_map, IfOk, OnOk, OnErr, IfErr, if◌then◌else◌};
+ghost use Rattle.std.specs.Prelude.{◌≡◌, ◌≢◌, ◌==◌, ◌↔◌, ◌+◌, ◌*◌, ◌≤◌, ◌<◌, ◌-◌, length, slice_index, ℕ, Err, [], ◌∷◌, Some, None, true, false, not, is_some, map, option_map, IfOk, OnOk, OnErr, IfErr, if◌then◌else◌};
 ghost use Rattle.shadow_mbr.specs.Stored.{sector_size};
+ghost use Rattle.tcg_tokens.specs.Tree.{tree};
 ghost use Rattle.transactions.specs.Bytes.{bytes_from};
 ghost use Rattle.transactions.specs.Sights.{sight_of, is_manufactured};
 ghost use Rattle.sessions.specs.Beside.{new_beside};
@@ -38,24 +39,22 @@ use transactions::{SessionId, Store, View};
 use trusted_cmds::SidBlock;
 
 /// What Get lists, as results.
-fn columns_outcome<R: Rows>(
+fn columns_given<R: Rows>(
     alloc: Global,
-    room: u64,
     rows: &R,
     sp: Sp,
     object: Uid,
     first: u64,
     last: u64,
     held: &Authorities,
-) -> Result<Outcome, AllocError>
-    ensures { IfOk result
-        (Tells (gives room (list_given (R.profile_of rows.now) (R.look_up rows.now) sp object first
-        last held.now))) }
+) -> Result<Vec<Value>, AllocError>
+    ensures { IfOk result (λ results. map tree results.items
+        ≡ list_given (R.profile_of rows.now) (R.look_up rows.now) sp object first last held.now) }
 {
     let listed = list_columns(alloc, rows, sp, object, first, last, held)?;
     let mut results = Vec::with_capacity(alloc, 1)?;
     results.push(list_value(listed))?;
-    Ok(fitting(alloc, room, results))
+    Ok(results)
 }
 
 /// Get of columns.
@@ -79,17 +78,9 @@ pub(crate) fn read_cells(
     let Some(held) = sessions.authorities(session) else {
         return Err(MethodFault::NoSession);
     };
-    let outcome = columns_outcome(
-        alloc,
-        room_of(store, sessions, session),
-        &store.view(session),
-        session.sp,
-        object,
-        first,
-        last,
-        held,
-    )?;
-    Ok(outcome)
+    let rows = store.view(session);
+    let results = columns_given(alloc, &rows, session.sp, object, first, last, held)?;
+    Ok(fitting(alloc, room_of(store, sessions, session), results))
 }
 
 /// What Get of the bytes of a table reads.

@@ -13,6 +13,10 @@ use Rattle.history.specs.Opening.{Origin, opened_with}
 use Rattle.hba.specs.History.{State, AgreesHba}
 use Rattle.drive.specs.State.{DriveState, Agrees}
 use Rattle.hba.specs.Registers.{word_at, line}
+use Rattle.host_memory.specs.Access.{Access}
+use Rattle.host_memory.specs.Window.{StandsSo}
+use Rattle.library_calls.specs.Regions.{StandsWithin}
+use Rattle.library_calls.specs.declared.hba_calls.regions.Region.{Region}
 use Rattle.library_calls.specs.HbaCallsDesk.{WritesHba, CyclesHba, TurnsDesk, denied_text}
 use Rattle.library_calls.specs.Worked.{refused_worked}
 use Rattle.library_calls.specs.declared.hba_calls.desk.HbaDesk.{HbaDesk}
@@ -56,12 +60,23 @@ abbrev pub CyclesByHandle : Option Object → Option Object → ℕ → Type 0
 CyclesByHandle had has code = ByHba had has (λ e. code ≡ code_of_call e)
     (λ old new. CyclesHba old new code)
 
--- The controller did a turn over bytes at a base address; where it was refused they are as before.
+-- The controller did a turn over bytes, by what an access makes of them; where it was refused they are as before.
+abbrev pub TurnsByHandle : Option Object → Option Object → ℕ → (List ℕ → Access → List ℕ → Type 0)
+    → List ℕ → List ℕ → Worked → Type 0
+TurnsByHandle had has choice stands before after worked =
+    ByHba had has (λ e. (worked ≡ refused_worked e) × (after ≡ before))
+    (λ old new. TurnsDesk old new choice stands before after worked)
+
+-- Over the bytes at a base address, and over those of them that lie in regions.
 abbrev pub WorksByHandle : Option Object → Option Object → ℕ → ℕ → List ℕ → List ℕ → Worked
     → Type 0
 WorksByHandle had has choice base before after worked =
-    ByHba had has (λ e. (worked ≡ refused_worked e) × (after ≡ before))
-    (λ old new. TurnsDesk old new choice base before after worked)
+    TurnsByHandle had has choice (StandsSo base) before after worked
+
+abbrev pub WorksWithin : Option Object → Option Object → ℕ → ℕ → List Region → List ℕ → List ℕ
+    → Worked → Type 0
+WorksWithin had has choice base regions before after worked =
+    TurnsByHandle had has choice (StandsWithin regions base) before after worked
 
 -- What denied the command of the last turn.
 abbrev pub CopiesDenied : Option Object → Option Object → List ℕ → List ℕ → Count → Type 0

@@ -4,7 +4,7 @@ ghost use Rattle.std.specs.Prelude.{◌≡◌};
 ghost use Rattle.library_calls.specs.Carries.{FramedAs, IsOpened};
 ghost use Rattle.library_calls.specs.Copies.{IsWrittenOut};
 ghost use Rattle.library_calls.specs.Spelled.{AskedAs, SpelledAs, command_asked, trusted_asked};
-ghost use Rattle.library_calls.specs.Told.{DecodedAs};
+ghost use Rattle.library_calls.specs.Told.{DecodedAs, NamedAs};
 ghost use Rattle.tcg_calls.specs.TokenTexts.{naming_of, token_text};
 
 use compacket::Session;
@@ -31,6 +31,14 @@ pub extern "C" fn opal_raw_decoded(alloc: Global, kind: u32, bytes: &[u8], into:
     ensures { DecodedAs kind bytes.now into.old into.new result }
 {
     library_calls::byte_calls::decoded_out(alloc, kind, bytes, into)
+}
+
+/// [`library_calls::byte_calls::named_call_out`].
+#[unsafe(no_mangle)]
+pub extern "C" fn opal_raw_call_named(alloc: Global, line: &[u8], into: &mut [u8]) -> Count
+    ensures { NamedAs line.now into.old into.new result }
+{
+    library_calls::byte_calls::named_call_out(alloc, line, into)
 }
 
 /// [`library_calls::byte_calls::frame_out`].

@@ -6,6 +6,8 @@ ghost use Rattle.library_calls.specs.Counts.{refused_count, given_count};
 ghost use Rattle.library_calls.specs.Refusals.{code_of_call};
 ghost use Rattle.fis.specs.Bytes.{bit};
 ghost use Rattle.hba.specs.Registers.{word_at, line};
+ghost use Rattle.host_memory.specs.Window.{StandsSo};
+ghost use Rattle.library_calls.specs.Regions.{StandsWithin};
 ghost use Rattle.library_calls.specs.HbaCallsDesk.{WritesHba, CyclesHba, TurnsDesk, denied_text};
 ghost use Rattle.library_calls.specs.Worked.{refused_worked};
 ghost use Rattle.opalport_c.specs.Calls.{WritesNone};
@@ -13,7 +15,7 @@ ghost use Rattle.opalport_c.specs.HbaCalls.{OfHba};
 
 use crate::object::Object;
 use library_calls::byte_calls::{CallError, Count};
-use library_calls::hba_calls::Worked;
+use library_calls::hba_calls::{Region, Worked};
 use std::alloc::Global;
 
 impl Object {
@@ -65,10 +67,29 @@ impl Object {
     pub(crate) fn work(&mut self, choice: usize, base: u32, bytes: &mut [u8]) -> Worked
         ensures { OfHba self.old self.new
             (λ e. (result ≡ refused_worked e) × (bytes.new ≡ bytes.old))
-            (λ d e. TurnsDesk d e choice base bytes.old bytes.new result) }
+            (λ d e. TurnsDesk d e choice (StandsSo base) bytes.old bytes.new result) }
     {
         match self {
             Object::Hba(desk) => desk.turn(choice, base, bytes),
+            Object::Drive(_) | Object::Port(_) => Worked::refused(CallError::OtherKind),
+        }
+    }
+
+    /// A controller does a turn over those of the bytes that lie in regions.
+    pub(crate) fn work_within(
+        &mut self,
+        choice: usize,
+        base: u32,
+        bytes: &mut [u8],
+        regions: &[Region],
+    ) -> Worked
+        ensures { OfHba self.old self.new
+            (λ e. (result ≡ refused_worked e) × (bytes.new ≡ bytes.old))
+            (λ d e. TurnsDesk d e choice (StandsWithin regions.now base) bytes.old bytes.new
+            result) }
+    {
+        match self {
+            Object::Hba(desk) => desk.turn_within(choice, base, bytes, regions),
             Object::Drive(_) | Object::Port(_) => Worked::refused(CallError::OtherKind),
         }
     }

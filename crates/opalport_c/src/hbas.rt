@@ -4,7 +4,7 @@ ghost use Rattle.std.specs.Prelude.{◌≡◌, None, map, IfOk, IfErr, OnOk};
 ghost use Rattle.sp_cells.specs.Config.{Config};
 ghost use Rattle.library_calls.specs.declared.hba_calls.desk.HbaDesk.{HbaDesk};
 ghost use Rattle.opalport_c.specs.Asked.{CanBe, ConfigAsked, IsMakingFault, row_asked};
-ghost use Rattle.opalport_c.specs.HbaCalls.{MakesHba, HbaOver, HbaStartsAs, ReadsWord, TellsInterrupt, WritesByHandle, CyclesByHandle, WorksByHandle, CopiesDenied};
+ghost use Rattle.opalport_c.specs.HbaCalls.{MakesHba, HbaOver, HbaStartsAs, ReadsWord, TellsInterrupt, WritesByHandle, CyclesByHandle, WorksByHandle, WorksWithin, CopiesDenied};
 ghost use Rattle.opalport_c.specs.declared.object.Object.TheVariants as objects;
 ghost use Rattle.library_calls.specs.declared.byte_calls.error.CallError.TheVariants.{OutOfMemory};
 
@@ -14,7 +14,7 @@ use crate::object::Object;
 use drive::Drive;
 use hba::Hba;
 use library_calls::byte_calls::{CallError, Count, DONE};
-use library_calls::hba_calls::{HbaDesk, Worked};
+use library_calls::hba_calls::{HbaDesk, Region, Worked};
 use std::alloc::Global;
 
 /// The controller over this drive. It is a call of its own for the stack that it takes, as that of a port.
@@ -170,6 +170,27 @@ pub extern "C" fn opal_raw_hba_turn(
         return Worked::refused(CallError::NotOpen);
     };
     let told = object.work(choice, base, bytes);
+    handle.put(object);
+    told
+}
+
+/// The same, where of those bytes the ones that lie in the regions alone are memory.
+#[unsafe(no_mangle)]
+pub extern "C" fn opal_raw_hba_turn_within(
+    handle: &mut Handle,
+    alloc: Global,
+    choice: usize,
+    base: u32,
+    bytes: &mut [u8],
+    regions: &[Region],
+) -> Worked
+    ensures { WorksWithin handle.old.place.kept handle.new.place.kept choice base regions.now
+        bytes.old bytes.new result }
+{
+    let Some(mut object) = handle.take(alloc) else {
+        return Worked::refused(CallError::NotOpen);
+    };
+    let told = object.work_within(choice, base, bytes, regions);
     handle.put(object);
     told
 }

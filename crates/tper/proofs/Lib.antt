@@ -5,3 +5,4 @@ pub mod KeptBeside
 mod Keeping
 mod Responses
 mod Sends
+pub mod Seen

@@ -1,2 +1,3 @@
 pub mod Tper
 pub mod Items
+pub mod Seen

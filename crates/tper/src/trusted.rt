@@ -1,6 +1,6 @@
 //! The TPer: what is kept behind the ComIDs, and what a send and a receive do with it.
 
-ghost use Rattle.std.specs.Prelude.{◌≡◌, ◌≢◌, ℕ, List, [], ◌∷◌, Option, None, Some, if◌then◌else◌, ◌==◌, true, false, IfOk, OnErr, OnOk, is_some, length, slice_index, ◌||◌, ◌<◌, ◌≤◌, ◌+◌, ◌*◌};
+ghost use Rattle.std.specs.Prelude.{◌≡◌, ◌≢◌, ℕ, List, [], ◌∷◌, Option, None, Some, if◌then◌else◌, ◌==◌, true, false, IfOk, OnErr, OnOk, is_some, length, option_copied, option_map, slice_index, ◌||◌, ◌<◌, ◌≤◌, ◌+◌, ◌*◌};
 ghost use Rattle.device_data.specs.ErrorLog.{sized};
 ghost use Rattle.sp_tables.specs.Contents.{Contents};
 ghost use Rattle.shadow_mbr.specs.Erasure.{no_sectors};
@@ -8,7 +8,7 @@ ghost use Rattle.shadow_mbr.specs.Stored.{sector_size};
 ghost use Rattle.transactions.specs.Bytes.{bytes_from};
 ghost use Rattle.transactions.specs.Sights.{look_up, committed_sight};
 ghost use Rattle.transactions.specs.Stored.{after_reset, part};
-ghost use Rattle.sessions.specs.Live.{session_at, lives_on, lives_of, AreNumberedOf};
+ghost use Rattle.sessions.specs.Live.{session_at, session_room, lives_on, lives_of, AreNumberedOf};
 ghost use Rattle.sessions.specs.Made.{closed_if};
 ghost use Rattle.sessions.specs.Beside.{beside_at_reset, channel_of, with_reset_stack, with_told_stack};
 ghost use Rattle.sp_cells.specs.declared.names.Sp.TheVariants.{Admin, Locking};
@@ -29,10 +29,12 @@ ghost use Rattle.tcg_tokens.specs.Reading.{reading as message_in};
 ghost use Rattle.methods.specs.Effects.{live_holder};
 ghost use Rattle.tper.specs.Items.{OfManager, OfSession};
 ghost use Rattle.tper.specs.Tper.{Keeps, IsToldOfSend, Handles, BreaksOff, IsUnframed, Manages, ServesSession, Responds, Takes, response_at, unless_on_if, told_event};
+ghost use Rattle.tper.specs.Seen.{living_session, rows_of_session, held_of_session, room_of_session, sight_kept, HoldsAlike};
 ghost use Rattle.sessions.specs.Deeds.{Ended, says};
 
 use crate::item::{breaks_off, end_session, in_session, is_discarded, to_manager};
 use crate::response::{Responses, Room};
+use ace_eval::Authorities;
 use audit::Why;
 use audit::rules::Rule;
 use basics::Profile;
@@ -154,6 +156,41 @@ impl Tper {
             → result ≡ is_some (open_on past sp) }
     {
         self.store.open_on(sp).is_some()
+    }
+
+    /// The rows as a session sees them: its calls are judged by them. Those in force where it does not live.
+    pub fn seen_by(&self, session: SessionId) -> View<'_>
+        ensures stands { result ≡ sight_kept self.now session }
+        ensures told { (o : Origin) (acts : List Act) → Keeps self.now o (log o acts)
+            → look_up result
+            ≡ rows_of_session o (log o acts) (living_session (log o acts) session) }
+        ensures config { result.config ≡ self.now.store.config }
+    {
+        match self.sessions.authorities(session) {
+            Some(_) => self.store.view(session),
+            None => self.store.committed(),
+        }
+    }
+
+    /// The authorities that a session holds; none where it does not live.
+    pub fn authorities(&self, session: SessionId) -> Option<&Authorities>
+        ensures stands { option_copied result
+            ≡ option_map (λ h. h.held) (live_holder self.now.live session) }
+        ensures told { (o : Origin) (past : List Event) → Keeps self.now o past
+            → HoldsAlike (option_copied result)
+            (held_of_session past (living_session past session)) }
+    {
+        self.sessions.authorities(session)
+    }
+
+    /// How many bytes of tokens a response to a session has room for.
+    pub fn room(&self, session: SessionId) -> u64
+        ensures stands { result
+            ≡ session_room self.now.store.config.profile self.now.live session }
+        ensures told { (o : Origin) (past : List Event) → Keeps self.now o past
+            → result ≡ room_of_session o.tables.config.profile past (living_session past session) }
+    {
+        self.sessions.room(self.profile(), session)
     }
 
     /// The sectors of the drive that can be shadowed.

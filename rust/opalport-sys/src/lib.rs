@@ -37,6 +37,16 @@ pub struct Size {
     pub profile: u32,
 }
 
+/// A region of a host's memory: `opal_region`.
+#[repr(C)]
+#[derive(Clone, Copy, Debug, PartialEq, Eq)]
+pub struct Region {
+    /// The address of its first byte.
+    pub begin: u64,
+    /// How many bytes it has.
+    pub length: u64,
+}
+
 /// The cells of a locking range: `opal_range`. Of the last four, 0 is false.
 #[repr(C)]
 #[derive(Clone, Copy, Debug)]
@@ -378,6 +388,16 @@ extern "C" {
     pub fn opal_raw_hba_power_cycle(handle: *mut Handle) -> u32;
     /// `opal_hba_turn` of the header.
     pub fn opal_raw_hba_turn(handle: *mut Handle, choice: usize, base: u32, memory: *mut u8, length: usize) -> Worked;
+    /// `opal_hba_turn_within` of the header.
+    pub fn opal_raw_hba_turn_within(
+        handle: *mut Handle,
+        choice: usize,
+        base: u32,
+        memory: *mut u8,
+        length: usize,
+        regions: *const Region,
+        region_count: usize,
+    ) -> Worked;
     /// `opal_hba_denial` of the header.
     pub fn opal_raw_hba_denial(handle: *mut Handle, into: *mut u8, length: usize) -> Count;
     /// `opal_hba_denied` of the header.
@@ -386,6 +406,8 @@ extern "C" {
     pub fn opal_raw_tokens(by_name: bool, bytes: *const u8, bytes_length: usize, into: *mut u8, length: usize) -> Count;
     /// `opal_decoded_text` of the header.
     pub fn opal_raw_decoded(kind: u32, bytes: *const u8, bytes_length: usize, into: *mut u8, length: usize) -> Count;
+    /// `opal_call_named` of the header.
+    pub fn opal_raw_call_named(line: *const u8, line_length: usize, into: *mut u8, length: usize) -> Count;
     /// `opal_frame` of the header.
     pub fn opal_raw_frame(
         com_id: u16,

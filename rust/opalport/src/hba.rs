@@ -1,6 +1,6 @@
 //! An AHCI controller with one port, and the drive behind it.
 
-use crate::{denied, raw, text, written, About, Config, Denied, Error, Object};
+use crate::{denied, raw, text, written, About, Config, Denied, Error, Object, Region};
 
 /// The work of a controller's turn.
 #[derive(Clone, Copy, Debug, PartialEq, Eq)]
@@ -90,23 +90,31 @@ impl Hba {
         // SAFETY: the handle is this controller's own, and the memory is there for the call.
         let told =
             unsafe { raw::opal_raw_hba_turn(&mut self.object.handle, choice, base, memory.as_mut_ptr(), memory.len()) };
-        Error::check(told.code)?;
-        let work = match told.work {
-            0 => Work::None,
-            1 => Work::Signature,
-            2 => Work::Fetch(told.tag),
-            _ => Work::Complete(told.tag),
+        worked(told)
+    }
+
+    /// The same, where of those bytes the ones that lie in the regions alone are memory: an access is answered where all its
+    /// bytes lie in one region, and any other finds no memory.
+    pub fn turn_within(
+        &mut self,
+        choice: usize,
+        base: u32,
+        memory: &mut [u8],
+        regions: &[Region],
+    ) -> Result<Worked, Error> {
+        // SAFETY: the handle is this controller's own, and memory and regions are there for the call.
+        let told = unsafe {
+            raw::opal_raw_hba_turn_within(
+                &mut self.object.handle,
+                choice,
+                base,
+                memory.as_mut_ptr(),
+                memory.len(),
+                regions.as_ptr(),
+                regions.len(),
+            )
         };
-        let went = match told.went {
-            0 => Went::Posted,
-            1 => Went::Served,
-            2 => Went::Control,
-            3 => Went::NoList,
-            4 => Went::NoTable,
-            5 => Went::NoData,
-            _ => Went::NoFis,
-        };
-        Ok(Worked { work, went, denied: told.denied })
+        worked(told)
     }
 
     /// The line of the audit log that tells what denied the command of the last turn, as
@@ -136,4 +144,25 @@ impl Hba {
     pub fn media(&mut self, lba: u64) -> Result<Vec<u8>, Error> {
         self.object.media(lba)
     }
+}
+
+/// What a turn is told as.
+fn worked(told: raw::Worked) -> Result<Worked, Error> {
+    Error::check(told.code)?;
+    let work = match told.work {
+        0 => Work::None,
+        1 => Work::Signature,
+        2 => Work::Fetch(told.tag),
+        _ => Work::Complete(told.tag),
+    };
+    let went = match told.went {
+        0 => Went::Posted,
+        1 => Went::Served,
+        2 => Went::Control,
+        3 => Went::NoList,
+        4 => Went::NoTable,
+        5 => Went::NoData,
+        _ => Went::NoFis,
+    };
+    Ok(Worked { work, went, denied: told.denied })
 }

@@ -30,6 +30,7 @@ mod hba;
 mod port;
 
 use opalport_sys as raw;
+pub use opalport_sys::Region;
 
 pub use denied::{Attempt, Denied, Reason, Sp};
 pub use hba::{Hba, Went, Work, Worked};
@@ -495,6 +496,12 @@ pub fn decoded_text(kind: Kind, bytes: &[u8]) -> Result<String, Error> {
     // SAFETY: as in `tokens_text`.
     written(4096, |into, room| unsafe { raw::opal_raw_decoded(kind as u32, bytes.as_ptr(), bytes.len(), into, room) })
         .map(text)
+}
+
+/// The tokens of the call that a line writes by name, as a script has it: `set 1 Locking_Range1 ReadLocked=0`.
+pub fn call_named(line: &str) -> Result<Vec<u8>, Error> {
+    // SAFETY: as in `tokens_text`.
+    written(256, |into, room| unsafe { raw::opal_raw_call_named(line.as_ptr(), line.len(), into, room) })
 }
 
 /// A ComPacket of one packet of a session with one data subpacket.

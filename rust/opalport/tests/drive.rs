@@ -1,7 +1,7 @@
 //! A drive whose range 1 is locked, by the wrapper. The values are worked from ACS-3 and TCG Core 2.01.
 
 use opalport::{
-    command_fis, decoded_text, frame, opened, receive_fis, send_fis, tokens_text, Answer, Attempt, Command, Config, Denied,
+    call_named, command_fis, decoded_text, frame, opened, receive_fis, send_fis, tokens_text, Answer, Attempt, Command, Config, Denied,
     Drive, Error, Kind, Label, Profile, Range, Reason, Sp,
 };
 
@@ -41,6 +41,13 @@ fn call(drive: &mut Drive, tsn: u32, hsn: u32, tokens: &str) -> String {
     assert_eq!(drive.accept(&send_fis(1, 0x1000, 1).unwrap(), &block).unwrap().status, 0x50);
     let answer = drive.accept(&receive_fis(1, 0x1000, 1).unwrap(), &[]).unwrap();
     tokens_text(false, opened(&answer.data).unwrap().payload).unwrap()
+}
+
+#[test]
+fn a_call_is_written_by_name() {
+    assert_eq!(call_named("set 1 Locking_Range1 ReadLocked=0 WriteLocked=0").unwrap(), bytes(UNLOCK));
+    assert_eq!(call_named("end 1").unwrap(), [0xfa]);
+    assert_eq!(call_named("set 1 Locking_Range1 ReadLocked").err(), Some(Error::Malformed));
 }
 
 #[test]

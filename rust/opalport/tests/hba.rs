@@ -1,6 +1,6 @@
 //! A controller whose drive has range 1 locked for reads, by the wrapper. The values are worked from AHCI 1.3.1 and ACS-3.
 
-use opalport::{command_fis, Command, Config, Error, Hba, Range, Went, Work, Worked};
+use opalport::{command_fis, Command, Config, Error, Hba, Range, Region, Went, Work, Worked};
 
 const BASE: u32 = 0x10_0000;
 const PX_CLB: u32 = 0x100;
@@ -24,12 +24,16 @@ fn start(hba: &mut Hba, memory: &mut [u8]) {
 }
 
 /// READ DMA EXT of a sector in slot 0: a header with a FIS of five words and one descriptor, of 512 bytes at 103000h.
-fn read(hba: &mut Hba, memory: &mut [u8], lba: u64) -> Worked {
+fn issue(hba: &mut Hba, memory: &mut [u8], lba: u64) {
     for (at, word) in [(0, 5 | 1 << 16), (8, BASE + 0x2000), (12, 0), (0x2080, BASE + 0x3000), (0x2084, 0), (0x208c, 511)] {
         memory[at..at + 4].copy_from_slice(&u32::to_le_bytes(word));
     }
     memory[0x2000..0x2014].copy_from_slice(&command_fis(Command::ReadDma { lba, count: 1 }).unwrap());
     hba.write(PX_CI, 1).unwrap();
+}
+
+fn read(hba: &mut Hba, memory: &mut [u8], lba: u64) -> Worked {
+    issue(hba, memory, lba);
     hba.turn(0, BASE, memory).unwrap()
 }
 
@@ -54,6 +58,22 @@ fn a_controller_tells_what_is_not_in_the_memory() {
     start(&mut hba, &mut memory);
     hba.write(PX_CI, 1).unwrap();
     assert_eq!(hba.turn(0, BASE, &mut []).unwrap().went, Went::NoList);
+}
+
+#[test]
+fn what_lies_in_no_region_is_no_memory() {
+    let (mut hba, mut memory) = (hba(), vec![0xff; 0x4000]);
+    start(&mut hba, &mut memory);
+    let begin = u64::from(BASE);
+    for (length, went) in [(512, Went::Served), (511, Went::NoData)] {
+        let regions = [Region { begin, length: 0x3000 }, Region { begin: begin + 0x3000, length }];
+        issue(&mut hba, &mut memory, 0);
+        memory[0x3000..0x3200].fill(0xff);
+        assert_eq!(hba.turn_within(0, BASE, &mut memory, &regions).unwrap().went, went);
+        assert_eq!(memory[0x3000] == 0, went == Went::Served);
+    }
+    let worked = hba.turn_within(0, BASE, &mut memory, &[]).unwrap();
+    assert_eq!(worked.work, Work::None);
 }
 
 #[test]

@@ -1,71 +1,71 @@
--- What a window's accesses are to its bytes.
-use Rattle.std.proofs.Common.{◌≡◌, ◌+◌, ℕ, Bool, true, false, List, [], ◌∷◌, nat_le, refl, subst, ap, ◌∙◌, Result, Ok, Err, Option, Some, None, IfOk, IfSome, OnErr}
+-- What accesses of a memory are to its bytes, where what else it has stays as it is.
+use Rattle.std.proofs.Common.{◌≡◌, ℕ, Bool, true, false, List, [], ◌∷◌, nat_le, ◌+◌, refl, subst, ap, ◌∙◌, Result, Ok, Err, Option, Some, None, IfOk, IfSome, OnErr}
 use Rattle.host_memory.specs.Access.{Access, Asked, Laid, Accessed, IsAccessIf, AreReads, OnlyReads, access_end, memory_end}
-use Rattle.host_memory.specs.Window.{StandsSo}
-use Rattle.host_memory.specs.WindowLaws.{WindowDoes}
-use Rattle.host_memory.specs.declared.window.Window.{Window}
 use Rattle.hba.specs.Engine.{TurnsTo}
 use Rattle.hba.specs.History.{State}
 use Rattle.hba.specs.Ready.{picked, ready_on}
 use Rattle.hba.specs.declared.work.Turned.{Turned}
 use Rattle.library_calls.specs.Over.{TurnsOver}
 
--- The window stays where it is.
-abbrev Stays : Window → Window → Type 0 → Type 0
-Stays old new does = (new.base ≡ old.base) × (new.bytes.ghost_name ≡ old.bytes.ghost_name) × does
+-- What an access of a memory is to its bytes, by what stays of it.
+abbrev pub Byted : {M K : Type 0} → (M → K) → (M → List ℕ) → (M → Access → M → Type 0)
+    → (K → List ℕ → Access → List ℕ → Type 0) → Type 0
+Byted {M} {K} key bytes does stands = (old new : M) (access : Access) → does old access new
+    → (key new ≡ key old) × stands (key old) (bytes old) access (bytes new)
 
-is_same : (old new : Window) → new ≡ old → Stays old new (new.bytes.now ≡ old.bytes.now)
-is_same old new e = (
-  ap (λ (w : Window). w.base) e,
-  ap (λ (w : Window). w.bytes.ghost_name) e,
-  ap (λ (w : Window). w.bytes.now) e,
-)
+-- A read leaves the bytes.
+abbrev pub Kept : {K : Type 0} → (K → List ℕ → Access → List ℕ → Type 0) → Type 0
+Kept {K} stands = (k : K) (b c : List ℕ) (at n : ℕ) (answer : Option (List ℕ)) → stands k b (Asked at n answer) c → c ≡ b
 
-by_bytes : (b : Bool) (old new : Window) (access : Access) → IsAccessIf b WindowDoes old access new
-    → Stays old new (IsAccessIf b (StandsSo old.base) old.bytes.now access new.bytes.now)
-by_bytes true old new access does = does
-by_bytes false old new access (refused, e) =
-    let s = is_same old new e in (s.0, s.1, (refused, s.2))
+once : {M K : Type 0} (key : M → K) (bytes : M → List ℕ) (does : M → Access → M → Type 0) (stands : K → List ℕ → Access → List ℕ → Type 0)
+    → Byted key bytes does stands → (b : Bool) (old new : M) (access : Access) → IsAccessIf b does old access new
+    → (key new ≡ key old) × IsAccessIf b (stands (key old)) (bytes old) access (bytes new)
+once key bytes does stands by true old new access d = by old new access d
+once key bytes does stands by false old new access (refused, e) = (ap key e, (refused, ap bytes e))
 
-accessed : (talk : List Access) (old new : Window) → Accessed WindowDoes old talk new
-    → Stays old new (Accessed (StandsSo old.base) old.bytes.now talk new.bytes.now)
-accessed [] old new e = is_same old new e
-accessed (access ∷ later) old new (middle, does, rest) =
-    let first = by_bytes (nat_le (access_end access) memory_end) old middle access does in
-    let then = accessed later middle new rest in (
+accessed : {M K : Type 0} (key : M → K) (bytes : M → List ℕ) (does : M → Access → M → Type 0) (stands : K → List ℕ → Access → List ℕ → Type 0)
+    → Byted key bytes does stands → (talk : List Access) (old new : M) → Accessed does old talk new
+    → (key new ≡ key old) × Accessed (stands (key old)) (bytes old) talk (bytes new)
+accessed key bytes does stands by [] old new e = (ap key e, ap bytes e)
+accessed {M} {K} key bytes does stands by (access ∷ later) old new (middle, d, rest) =
+    let first = once key bytes does stands by (nat_le (access_end access) memory_end) old middle access d in
+    let then = accessed key bytes does stands by later middle new rest in (
       then.0 ∙ first.0,
-      then.1 ∙ first.1,
-      (middle.bytes.now, first.2, subst (λ (b : ℕ). Accessed (StandsSo b) middle.bytes.now later new.bytes.now) first.0 then.2),
+      (bytes middle, first.1, subst (λ (k : K). Accessed (stands k) (bytes middle) later (bytes new)) first.0 then.1),
     )
 
-read : (talk : List Access) (old new : Window) → AreReads talk → Accessed WindowDoes old talk new
-    → Stays old new (new.bytes.now ≡ old.bytes.now)
-read [] old new reads e = is_same old new e
-read (Asked at n answer ∷ later) old new reads (middle, does, rest) =
-    let first = asked (nat_le (at + n) memory_end) old middle at n answer does in
-    let then = read later middle new reads rest in
-    (then.0 ∙ first.0, then.1 ∙ first.1, then.2 ∙ first.2)
-  where
-    asked : (b : Bool) (old new : Window) (at n : ℕ) (answer : Option (List ℕ)) → IsAccessIf b WindowDoes old (Asked at n answer) new
-        → Stays old new (new.bytes.now ≡ old.bytes.now)
-    asked true old new at n answer (base, name, (_, same)) = (base, name, same)
-    asked false old new at n answer (refused, e) = is_same old new e
-read (Laid at bytes is_done ∷ later) old new reads acc = absurd reads
+read_once : {K : Type 0} (stands : K → List ℕ → Access → List ℕ → Type 0) → Kept stands
+    → (b : Bool) (k : K) (old new : List ℕ) (at n : ℕ) (answer : Option (List ℕ)) → IsAccessIf b (stands k) old (Asked at n answer) new
+    → new ≡ old
+read_once stands kept true k old new at n answer s = kept k old new at n answer s
+read_once stands kept false k old new at n answer (refused, e) = e
 
--- A turn over a window, by its bytes.
-pub turned : {E : Type 0} (choice : ℕ) (old new : State) (before after : Window) (outcome : Result (Option Turned) E)
-    → IfOk outcome (λ turned. IfSome turned (λ t. TurnsTo WindowDoes old before new after t))
+read : {M K : Type 0} (key : M → K) (bytes : M → List ℕ) (does : M → Access → M → Type 0) (stands : K → List ℕ → Access → List ℕ → Type 0)
+    → Byted key bytes does stands → Kept stands → (talk : List Access) (old new : M) → AreReads talk → Accessed does old talk new
+    → (key new ≡ key old) × (bytes new ≡ bytes old)
+read key bytes does stands by kept [] old new reads e = (ap key e, ap bytes e)
+read key bytes does stands by kept (Asked at n answer ∷ later) old new reads (middle, d, rest) =
+    let first = once key bytes does stands by (nat_le (at + n) memory_end) old middle (Asked at n answer) d in
+    let then = read key bytes does stands by kept later middle new reads rest in
+    (then.0 ∙ first.0, then.1 ∙ read_once stands kept (nat_le (at + n) memory_end) (key old) (bytes old) (bytes middle) at n answer first.1)
+read key bytes does stands by kept (Laid at others is_done ∷ later) old new reads acc = absurd reads
+
+-- A turn over a memory, by its bytes.
+pub turned : {E M K : Type 0} (key : M → K) (bytes : M → List ℕ) (does : M → Access → M → Type 0) (stands : K → List ℕ → Access → List ℕ → Type 0)
+    → Byted key bytes does stands → Kept stands
+    → (choice : ℕ) (old new : State) (before after : M) (outcome : Result (Option Turned) E)
+    → IfOk outcome (λ turned. IfSome turned (λ t. TurnsTo does old before new after t))
     → IfOk outcome (λ turned. IfSome turned (λ t. picked choice (ready_on old) ≡ Some t.work))
     → IfOk outcome (λ turned. turned ≡ None → ready_on old ≡ [])
     → IfOk outcome (λ turned. turned ≡ None → new ≡ old)
     → IfOk outcome (λ turned. turned ≡ None → after ≡ before)
     → OnErr outcome (new ≡ old)
-    → OnErr outcome (OnlyReads WindowDoes before after)
-    → Stays before after (TurnsOver choice before.base old before.bytes.now new after.bytes.now outcome)
-turned choice old new before after (Ok (Some t)) (talk, operation, acc, told, agrees) pick idle still moved err kept =
-    let a = accessed talk before after acc in
-    (a.0, a.1, (pick, (talk, operation, a.2, told, agrees)))
-turned choice old new before after (Ok None) done pick idle still moved err kept =
-    let s = is_same before after (moved refl) in (s.0, s.1, (idle refl, still refl, s.2))
-turned choice old new before after (Err error) done pick idle still moved err (talk, reads, acc) =
-    let r = read talk before after reads acc in (r.0, r.1, (err, r.2))
+    → OnErr outcome (OnlyReads does before after)
+    → (key after ≡ key before) × TurnsOver choice (stands (key before)) old (bytes before) new (bytes after) outcome
+turned key bytes does stands by kept choice old new before after (Ok (Some t)) (talk, operation, acc, told, agrees) pick idle still moved err left =
+    let a = accessed key bytes does stands by talk before after acc in
+    (a.0, (pick, (talk, operation, a.1, told, agrees)))
+turned key bytes does stands by kept choice old new before after (Ok None) done pick idle still moved err left =
+    (ap key (moved refl), (idle refl, still refl, ap bytes (moved refl)))
+turned key bytes does stands by kept choice old new before after (Err error) done pick idle still moved err (talk, reads, acc) =
+    let r = read key bytes does stands by kept talk before after reads acc in (r.0, (err, r.1))

@@ -1,14 +1,15 @@
-//! Bytes as text.
+//! Bytes as text, and text as bytes.
 
 ghost use Rattle.std.specs.Prelude.{◌≡◌, Some, None};
 ghost use Rattle.library_calls.specs.Copies.{IsWrittenOut};
-ghost use Rattle.library_calls.specs.Told.{kind_numbered, DecodedAs};
+ghost use Rattle.library_calls.specs.Told.{kind_numbered, DecodedAs, NamedAs};
 ghost use Rattle.tcg_calls.specs.TokenTexts.{token_text};
 
-use crate::byte_calls::copied::copy_text;
+use crate::byte_calls::copied::{copy_out, copy_text};
 use crate::byte_calls::count::Count;
 use crate::byte_calls::error::CallError;
 use decoded::{Kind, check, lines};
+use script_lines::named_lines::NamedLine;
 use std::alloc::Global;
 use tcg_calls::named_tokens::{Naming, token_text};
 
@@ -20,6 +21,18 @@ pub fn tokens_out(alloc: Global, naming: Naming, bytes: &[u8], into: &mut [u8]) 
 {
     let text = token_text(alloc, naming, bytes);
     copy_text(text.map(String::into_bytes), into)
+}
+
+/// Copies the tokens of the call that a line of a script writes by name, as `set 1 Locking_Range1 ReadLocked=0`: what the
+/// `call` line sends for which it stands. Refused with `Malformed` where it writes none.
+pub fn named_call_out(alloc: Global, line: &[u8], into: &mut [u8]) -> Count
+    ensures { NamedAs line.now into.old into.new result }
+{
+    match NamedLine::parse(alloc, line) {
+        Ok(Some(named)) => copy_out(named.tokens.as_slice(), into),
+        Ok(None) => Count::refused(CallError::Malformed),
+        Err(_) => Count::refused(CallError::OutOfMemory),
+    }
 }
 
 /// What bytes are, by a number, in the order of the kinds.

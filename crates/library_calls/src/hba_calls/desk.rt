@@ -2,7 +2,8 @@
 
 use crate::byte_calls::{Count, DONE, copy_out, copy_text};
 use crate::denied::Denied;
-use crate::hba_calls::over::turn_over;
+use crate::hba_calls::over::{turn_over, turn_within};
+use crate::hba_calls::regions::Region;
 use crate::hba_calls::worked::{Worked, worked_tag};
 use audit::{AuditLine, line_bytes};
 use hba::{Hba, Turned};
@@ -23,6 +24,8 @@ impl HbaDesk {
     ghost use Rattle.library_calls.specs.Denied.{line_numbers};
     ghost use Rattle.fis.specs.Bytes.{bit};
     ghost use Rattle.hba.specs.Registers.{word_at, line};
+    ghost use Rattle.host_memory.specs.Window.{StandsSo};
+    ghost use Rattle.library_calls.specs.Regions.{StandsWithin};
     ghost use Rattle.library_calls.specs.HbaCallsDesk.{WritesHba, CyclesHba, TurnsDesk, denied_line, denied_after, denied_text};
 
     /// A controller that did no turn.
@@ -82,9 +85,27 @@ impl HbaDesk {
 
     /// The controller does the work of this number, modulo how many there are, over the bytes that stand at a base address.
     pub fn turn(&mut self, choice: usize, base: u32, bytes: &mut [u8]) -> Worked
-        ensures { TurnsDesk self.old self.new choice base bytes.old bytes.new result }
+        ensures { TurnsDesk self.old self.new choice (StandsSo base) bytes.old bytes.new result }
     {
         let outcome = turn_over(&mut self.hba, choice, base, bytes);
+        let told = Worked::told(&outcome);
+        self.keep(outcome);
+        told
+    }
+
+    /// The same, where of those bytes the ones that lie in the regions alone are memory: an access is answered where all its
+    /// bytes lie in one region.
+    pub fn turn_within(
+        &mut self,
+        choice: usize,
+        base: u32,
+        bytes: &mut [u8],
+        regions: &[Region],
+    ) -> Worked
+        ensures { TurnsDesk self.old self.new choice (StandsWithin regions.now base) bytes.old
+            bytes.new result }
+    {
+        let outcome = turn_within(&mut self.hba, choice, base, bytes, regions);
         let told = Worked::told(&outcome);
         self.keep(outcome);
         told
