@@ -20,7 +20,7 @@ void whisper(const char *form, ...) __attribute__((format(printf, 1, 2)));
 void memory_none(void);
 void memory_add(uint64_t address, uint64_t size, int fd, int64_t offset);
 void memory_own(uint32_t address, uint32_t size); /* memory of the bridge, of zeros */
-bool memory_has(uint64_t address, uint64_t length);
+const opal_region *memory_regions(size_t *number); /* what of the window is memory */
 uint8_t *memory_at(uint32_t address);
 
 /* controller.c: the controller, by its registers and its works. */

@@ -1,5 +1,5 @@
 /* The guest's memory: QEMU sends it as sections of files, and each is mapped here at its own address of a window. What lies
-   between them is a hole: zeros of the bridge's own, which controller.c keeps the controller from. */
+   between them is a hole: zeros of the bridge's own, in no region that the controller is told. */
 #define _GNU_SOURCE
 #include "bridge.h"
 
@@ -10,8 +10,8 @@
 enum { MOST_SECTIONS = 8 };
 
 static uint8_t *window;
-static struct { uint64_t begin, end; } sections[MOST_SECTIONS];
-static int count;
+static opal_region regions[MOST_SECTIONS];
+static size_t count;
 
 /* Maps a piece of the window anew. */
 static void place(uint64_t address, uint64_t size, int flags, int fd, int64_t offset)
@@ -30,12 +30,30 @@ void memory_none(void)
     count = 0;
 }
 
+/* Regions that touch one another are one: an access may lie in both. */
+static bool joins(opal_region *region, const opal_region *other)
+{
+    bool is_before = other->begin + other->length == region->begin;
+    if (!is_before && region->begin + region->length != other->begin)
+        return false;
+    region->begin = is_before ? other->begin : region->begin;
+    region->length += other->length;
+    return true;
+}
+
 static void remember(uint64_t address, uint64_t size)
 {
+    opal_region region = { address, size };
+    for (size_t i = 0; i < count;)
+        if (joins(&region, &regions[i])) {
+            regions[i] = regions[--count];
+            i = 0;
+        } else {
+            i++;
+        }
     if (count == MOST_SECTIONS)
         stop("QEMU sends more than %d sections of memory", MOST_SECTIONS);
-    sections[count].begin = address;
-    sections[count++].end = address + size;
+    regions[count++] = region;
 }
 
 /* The controller has addresses of 32 bits: what lies above it cannot reach. */
@@ -55,19 +73,10 @@ void memory_own(uint32_t address, uint32_t size)
     remember(address, size);
 }
 
-/* Whether each of these bytes is memory: they may lie in several sections that touch one another. */
-bool memory_has(uint64_t address, uint64_t length)
+const opal_region *memory_regions(size_t *number)
 {
-    uint64_t known = address, end = address + length;
-    for (bool grows = true; grows && known < end;) {
-        grows = false;
-        for (int i = 0; i < count; i++)
-            if (sections[i].begin <= known && known < sections[i].end) {
-                known = sections[i].end;
-                grows = true;
-            }
-    }
-    return known >= end;
+    *number = count;
+    return regions;
 }
 
 uint8_t *memory_at(uint32_t address)

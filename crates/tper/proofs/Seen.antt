@@ -54,7 +54,7 @@ each n (Some s) P none some = by_test (s.number == n) refl
     by_test false is = none
 
 true-false : {A : Type 0} → true ≡ false → A
-true-false h = absurd (cc : ⊥)
+true-false h = absurd cc
 
 on-admin : (past : List Event) (l : Live) (n : ℕ) → KeepsSessions l past → IsKeptAs past (holder_on Admin (session_at l n)) (if_number n (session_on past Admin))
 on-admin past l n keeps =
@@ -97,14 +97,16 @@ held-kept past (Some h) (Some s) kept = kept.held
 held-kept past None (Some s) kept = absurd kept
 held-kept past (Some h) None kept = absurd kept
 
-pub held_alike : (past : List Event) (l : Live) (id : SessionId) → KeepsSessions l past
-    → HoldsAlike (option_map (λ (h : Holder). h.held) (live_holder l id)) (held_of_session past (living_session past id))
-held_alike past l id keeps = held-kept past (live_holder l id) (living_session past id) (kept-alike past l id keeps)
+pub held_alike : (o : Origin) (past : List Event) (t : Tper) (id : SessionId) (x : Option (List Uid)) → Keeps t o past
+    → x ≡ option_map (λ (h : Holder). h.held) (live_holder t.live id) → HoldsAlike x (held_of_session past (living_session past id))
+held_alike o past t id x keeps is =
+    subst (λ (held : Option (List Uid)). HoldsAlike held (held_of_session past (living_session past id))) (sym is)
+    (held-kept past (live_holder t.live id) (living_session past id) (kept-alike past t.live id keeps.sessions))
 
 -- what it sees
 
 found : (n : ℕ) (y : Option Begun) (s : Begun) → if_number n y ≡ Some s → (y ≡ Some s) × (s.number ≡ n)
-found n y s = each n y (λ z. z ≡ Some s → (y ≡ Some s) × (s.number ≡ n)) (λ h. absurd (cc : ⊥))
+found n y s = each n y (λ z. z ≡ Some s → (y ≡ Some s) × (s.number ≡ n)) (λ h. absurd cc)
     (λ t is same h. (is ∙ h, ap (λ (o : Option Begun). number_or o) (sym h) ∙ eqb-true t.number n same))
   where
     number_or : Option Begun → ℕ
@@ -116,9 +118,9 @@ by-standing : (o : Origin) (acts : List Act) (t : Tper) (s : Begun) → Keeps t 
 by-standing o acts t s keeps on =
     ap (λ (x : Standing). x.rows) (standing-same o acts t.store t.live s [] keeps.store keeps.sessions on keeps.beside)
 
-pub seen_alike : (o : Origin) (acts : List Act) (t : Tper) (id : SessionId) → Keeps t o (log o acts)
-    → look_up (sight_kept t id) ≡ rows_of_session o (log o acts) (living_session (log o acts) id)
-seen_alike o acts t id keeps = by_cases (live_holder t.live id) (living_session past id) refl (kept-alike past t.live id keeps.sessions)
+pub seen_alike : (o : Origin) (acts : List Act) (t : Tper) (id : SessionId) (v : Sight) → Keeps t o (log o acts) → v ≡ sight_kept t id
+    → look_up v ≡ rows_of_session o (log o acts) (living_session (log o acts) id)
+seen_alike o acts t id v keeps is = ap look_up is ∙ by_cases (live_holder t.live id) (living_session past id) refl (kept-alike past t.live id keeps.sessions)
   where
     past : List Event
     past = log o acts
@@ -142,8 +144,8 @@ seen_alike o acts t id keeps = by_cases (live_holder t.live id) (living_session 
     by_cases (Some h) None is kept = absurd kept
 
 -- the configuration stays, whoever looks
-pub config_kept : (t : Tper) (id : SessionId) → (sight_kept t id).config ≡ t.store.config
-config_kept t id = by_test (is_some (live_holder t.live id))
+pub config_kept : (t : Tper) (id : SessionId) (v : Sight) → v ≡ sight_kept t id → v.config ≡ t.store.config
+config_kept t id v is = ap (λ (s : Sight). s.config) is ∙ by_test (is_some (live_holder t.live id))
   where
     by_sp : (sp : Sp) → (sight_of t.store (record { tsn = id.tsn; sp = sp })).config ≡ t.store.config
     by_sp Admin = refl
@@ -155,11 +157,12 @@ config_kept t id = by_test (is_some (live_holder t.live id))
 
 -- and how many bytes a response to it has room for
 
-pub room_alike : (o : Origin) (past : List Event) (t : Tper) (id : SessionId) → Keeps t o past
-    → session_room t.store.config.profile t.live id ≡ room_of_session o.tables.config.profile past (living_session past id)
-room_alike o past t id keeps =
-    ap (λ (c : Config). session_room c.profile t.live id) keeps.store.config
-    ∙ ap (λ (n : ℕ). room_of o.tables.config.profile (channel_of t.live.beside n).limits) (by_cases (live_holder t.live id) (living_session past id) (kept-alike past t.live id keeps.sessions))
+pub room_alike : (o : Origin) (past : List Event) (t : Tper) (id : SessionId) (n : ℕ) → Keeps t o past
+    → n ≡ session_room t.store.config.profile t.live id → n ≡ room_of_session o.tables.config.profile past (living_session past id)
+room_alike o past t id n keeps is =
+    is
+    ∙ ap (λ (c : Config). session_room c.profile t.live id) keeps.store.config
+    ∙ ap (λ (k : ℕ). room_of o.tables.config.profile (channel_of t.live.beside k).limits) (by_cases (live_holder t.live id) (living_session past id) (kept-alike past t.live id keeps.sessions))
     ∙ ap (λ (b : Beside). room_of o.tables.config.profile (channel_of b (com_id_of_session (living_session past id))).limits) keeps.beside
   where
     by_cases : (x : Option Holder) (y : Option Begun) → IsKeptAs past x y → com_id_of x ≡ com_id_of_session y

@@ -158,7 +158,26 @@ impl Tper {
         self.store.open_on(sp).is_some()
     }
 
+    /// Whether a session lives.
+    fn lives(&self, session: SessionId) -> bool
+        ensures { result ≡ is_some (live_holder self.now.live session) }
+    {
+        self.sessions.authorities(session).is_some()
+    }
+
+    /// What a session sees, or what is in force where it does not live.
+    fn sight(&self, session: SessionId) -> View<'_>
+        ensures { result ≡ sight_kept self.now session }
+    {
+        if self.lives(session) {
+            self.store.view(session)
+        } else {
+            self.store.committed()
+        }
+    }
+
     /// The rows as a session sees them: its calls are judged by them. Those in force where it does not live.
+    #[tactic(auto, using(crate::proofs::Seen::config_kept))]
     pub fn seen_by(&self, session: SessionId) -> View<'_>
         ensures stands { result ≡ sight_kept self.now session }
         ensures told { (o : Origin) (acts : List Act) → Keeps self.now o (log o acts)
@@ -166,13 +185,19 @@ impl Tper {
             ≡ rows_of_session o (log o acts) (living_session (log o acts) session) }
         ensures config { result.config ≡ self.now.store.config }
     {
-        match self.sessions.authorities(session) {
-            Some(_) => self.store.view(session),
-            None => self.store.committed(),
-        }
+        self.sight(session)
+    }
+
+    /// What a session holds, by what is kept.
+    fn held_by(&self, session: SessionId) -> Option<&Authorities>
+        ensures { option_copied result
+            ≡ option_map (λ h. h.held) (live_holder self.now.live session) }
+    {
+        self.sessions.authorities(session)
     }
 
     /// The authorities that a session holds; none where it does not live.
+    #[tactic(auto, using(crate::proofs::Seen::held_alike))]
     pub fn authorities(&self, session: SessionId) -> Option<&Authorities>
         ensures stands { option_copied result
             ≡ option_map (λ h. h.held) (live_holder self.now.live session) }
@@ -180,17 +205,25 @@ impl Tper {
             → HoldsAlike (option_copied result)
             (held_of_session past (living_session past session)) }
     {
-        self.sessions.authorities(session)
+        self.held_by(session)
+    }
+
+    /// How many bytes a response to a session has room for, by what is kept.
+    fn room_kept(&self, session: SessionId) -> u64
+        ensures { result ≡ session_room self.now.store.config.profile self.now.live session }
+    {
+        self.sessions.room(self.profile(), session)
     }
 
     /// How many bytes of tokens a response to a session has room for.
+    #[tactic(auto, using(crate::proofs::Seen::room_alike))]
     pub fn room(&self, session: SessionId) -> u64
         ensures stands { result
             ≡ session_room self.now.store.config.profile self.now.live session }
         ensures told { (o : Origin) (past : List Event) → Keeps self.now o past
             → result ≡ room_of_session o.tables.config.profile past (living_session past session) }
     {
-        self.sessions.room(self.profile(), session)
+        self.room_kept(session)
     }
 
     /// The sectors of the drive that can be shadowed.
