@@ -8,7 +8,7 @@ use Rattle.tool.specs.OptionTexts.{DriveText, drive_text}
 use Rattle.tcg_calls.specs.declared.named_tokens.naming.Naming.{Naming}
 use Rattle.tcg_calls.specs.TokenTexts.{naming_of}
 use Rattle.opalport.specs.declared.command_line.Request.{Request}
-use Rattle.opalport.specs.declared.command_line.Request.TheVariants.{Run, Draw, Level0, Threads, Tokens, Decode, Hba, Explore}
+use Rattle.opalport.specs.declared.command_line.Request.TheVariants.{Run, Draw, Level0, Threads, Tokens, Decode, Hba, Explore, Judge}
 
 -- `--name TEXT`, and the text that stands for it where it is left out
 abbrev pub option_rule : Text → Text → Rule
@@ -53,10 +53,10 @@ run_line =
     with_rule (with_rule (drive_line (codes "run")) (flag_rule (codes "explain")))
     (free_rule (codes "vcd"))
 
--- `--range TEXT`, as often as it is wanted
-abbrev pub range_rule : Rule
-range_rule = record (new_rule (codes "range")) {
-  long = Some (codes "range");
+-- `--name TEXT`, as often as it is wanted
+abbrev pub repeated_rule : Text → Rule
+repeated_rule name = record (new_rule name) {
+  long = Some name;
   value_names = 1;
   action = Some Append;
 }
@@ -65,7 +65,8 @@ range_rule = record (new_rule (codes "range")) {
 abbrev pub hba_line : App
 hba_line =
     with_rule
-    (with_rule (with_rule (drive_line (codes "hba")) range_rule) (flag_rule (codes "explain")))
+    (with_rule (with_rule (drive_line (codes "hba")) (repeated_rule (codes "range")))
+    (flag_rule (codes "explain")))
     (free_rule (codes "vcd"))
 
 -- `threads`, with the options that say how many clients make how many rounds
@@ -103,6 +104,15 @@ explore_line =
     (option_rule (codes "limit") (codes "100000")))
     (free_rule (codes "find"))
 
+-- `judge`, with the options of a drive, and those that say which freedoms are given, and what is told
+abbrev pub judge_line : App
+judge_line =
+    with_rule
+    (with_rule
+    (with_rule (drive_line (codes "judge")) (repeated_rule (codes "freedom")))
+    (flag_rule (codes "strict")))
+    (flag_rule (codes "quiet"))
+
 -- settings of a program that has a version, and wants one of its commands
 abbrev pub wants_command : Shape → Shape
 wants_command s =
@@ -112,7 +122,7 @@ wants_command s =
 abbrev pub top_line : App
 top_line = on_top wants_command (new_app (codes "opalport"))
 
--- the program takes one of the eight, and nothing else
+-- the program takes one of the nine, and nothing else
 abbrev pub opalport_line : App
 opalport_line =
     with_subcommand
@@ -122,10 +132,12 @@ opalport_line =
     (with_subcommand
     (with_subcommand
     (with_subcommand
+    (with_subcommand
     (with_subcommand top_line
     run_line.top) (drive_line (codes "level0")).top) threads_line.top)
     tokens_line.top) decode_line.top) hba_line.top) (drive_line (codes "draw")).top)
-    explore_line.top
+    explore_line.top)
+    judge_line.top
 
 -- what words ask for, by the texts as they are written
 pub data Wanted : Type 0 where
@@ -137,6 +149,7 @@ pub data Wanted : Type 0 where
   decode : Text → Text → Wanted
   hba : Bool → DriveText → List Text → Text → Wanted
   explore : DriveText → Text → Text → Text → Wanted
+  judge : DriveText → List Text → Bool → Bool → Wanted
 
 -- what a request asks for
 abbrev pub wanted_by : Request → Wanted
@@ -150,6 +163,8 @@ wanted_by (Hba texts) =
     hba texts.explains (drive_text texts.drive) (map (λ s. s.now) texts.ranges.items) texts.vcd.now
 wanted_by (Explore texts) =
     explore (drive_text texts.drive) texts.steps.now texts.limit.now texts.find.now
+wanted_by (Judge texts) =
+    judge (drive_text texts.drive) (map (λ s. s.now) texts.freedoms.items) texts.strict texts.quiet
 
 -- the text of an argument; one that is required or has a default has one, and any other may be empty
 abbrev pub text_of : Text → List Row → Text
@@ -169,9 +184,9 @@ drive_in rows = record {
   seed = first_of (codes "seed") rows;
 }
 
--- the texts of the ranges, in their order
-abbrev pub range_texts : List Row → List Text
-range_texts rows = unwrap_or (all_of (codes "range") rows) []
+-- the texts of an option that is given as often as it is wanted, in their order
+abbrev pub texts_in : Text → List Row → List Text
+texts_in id rows = unwrap_or (all_of id rows) []
 
 -- whether a flag is set
 abbrev pub has_flag : Text → List Row → Bool
@@ -194,12 +209,15 @@ asked_of (name, rows) =
     else if bytes_eq name (codes "decode")
     then Some (decode (text_of (codes "kind") rows) (text_of (codes "hex") rows))
     else if bytes_eq name (codes "hba")
-    then Some (hba (has_flag (codes "explain") rows) (drive_in rows) (range_texts rows)
+    then Some (hba (has_flag (codes "explain") rows) (drive_in rows) (texts_in (codes "range") rows)
     (text_of (codes "vcd") rows))
     else if bytes_eq name (codes "draw") then Some (draw (drive_in rows))
     else if bytes_eq name (codes "explore")
     then Some (explore (drive_in rows) (text_of (codes "steps") rows) (text_of (codes "limit") rows)
     (text_of (codes "find") rows))
+    else if bytes_eq name (codes "judge")
+    then Some (judge (drive_in rows) (texts_in (codes "freedom") rows)
+    (has_flag (codes "strict") rows) (has_flag (codes "quiet") rows))
     else None
 
 -- what the words of a command line ask for, where they are one

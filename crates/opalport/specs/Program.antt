@@ -17,13 +17,16 @@ use Rattle.runs.specs.Pictures.{Draws}
 use Rattle.runs.specs.Plans.{WritesPlan, WritesSomePlan}
 use Rattle.runs.specs.Tellings.{Explores}
 use Rattle.runs.specs.declared.explored.plan.Plan.{Plan}
+use Rattle.judged.specs.Freedoms.{freedoms_asked}
+use Rattle.judged.specs.Judgements.{JudgesTranscript}
+use Rattle.judged.specs.declared.freedom.Freedom.{Freedom}
 use Rattle.hba_program.specs.Openings.{option_rows, IsFaultOf}
 use Rattle.hba_program.specs.Steps.{ServesOpened}
 use Rattle.hba_program.specs.declared.hba_tool.opening.RangeFault.{RangeFault}
 use Rattle.clap.specs.Words.{IsAmong, Kinds, Text, fault_of}
 use Rattle.clap.specs.declared.error.kind.ErrorKind.{ErrorKind}
 use Rattle.clap.specs.declared.error.kind.ErrorKind.TheVariants.{DisplayHelp, DisplayVersion}
-use Rattle.opalport.specs.CommandLine.{Wanted, run, draw, level0, threads, tokens, decode, hba, explore, asked_by, opalport_line}
+use Rattle.opalport.specs.CommandLine.{Wanted, run, draw, level0, threads, tokens, decode, hba, explore, judge, asked_by, opalport_line}
 
 -- the texts write a configuration within the limits
 abbrev pub WritesLimitedConfig : DriveText → Type 0
@@ -60,6 +63,23 @@ abbrev pub ExploreEnds : DriveText → Text → Text → Text → Option (List �
 ExploreEnds texts steps limit find input status old new =
     ((config : Config) × WritesConfig texts config × IsOfDrive config
     × ExploresOn config steps limit find input status old new)
+    ⊎ ((WritesLimitedConfig texts → ⊥) × (status ≡ 2) × (new ≡ old))
+
+-- the answers of a transcript are judged, with the freedoms that the words give; where they name another, the status is
+-- 2, and nothing is printed
+abbrev pub JudgesOn : Config → Bool → List Text → Bool → Option (List ℕ) → ℕ → Option (List ℕ)
+    → Option (List ℕ) → Type 0
+JudgesOn config strict names quiet input status old new =
+    ((freedoms : List Freedom) × (freedoms_asked strict names ≡ Some freedoms)
+    × JudgesTranscript config (record { freedoms = freedoms; quiet = quiet }) input status old new)
+    ⊎ ((freedoms_asked strict names ≡ None) × (status ≡ 2) × (new ≡ old))
+
+-- the same by the drive of the options; where they open no drive, the status is 2, and nothing is printed
+abbrev pub JudgeEnds : DriveText → List Text → Bool → Bool → Option (List ℕ) → ℕ → Option (List ℕ)
+    → Option (List ℕ) → Type 0
+JudgeEnds texts names strict quiet input status old new =
+    ((config : Config) × WritesConfig texts config × IsOfDrive config
+    × JudgesOn config strict names quiet input status old new)
     ⊎ ((WritesLimitedConfig texts → ⊥) × (status ≡ 2) × (new ≡ old))
 
 -- the discovery of a new drive is printed with status 0; where the options open no drive, the status is 2, and nothing
@@ -132,6 +152,8 @@ Serves remaining contents (Some (hba explains texts ranges vcd)) input status ol
     HbaEnds remaining contents explains texts ranges input status old new
 Serves remaining contents (Some (explore texts steps limit find)) input status old new =
     ExploreEnds texts steps limit find input status old new
+Serves remaining contents (Some (judge texts names strict quiet)) input status old new =
+    JudgeEnds texts names strict quiet input status old new
 
 -- the words are no command line, and one of their faults is told
 abbrev pub Refuses : Kinds → ℕ → Option (List ℕ) → Option (List ℕ) → Type 0

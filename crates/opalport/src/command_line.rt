@@ -3,10 +3,11 @@
 ghost use Rattle.std.specs.Prelude.{◌≡◌, IfOk, true, map, option_map, option_and_then, string_bytes, codes};
 ghost use Rattle.clap.specs.Words.{App, FailsBy, app_of, fault_of, first_of, found_of, new_app, rows_of, subcommand_rows_of, with_rule, with_subcommand};
 ghost use Rattle.tool.specs.OptionTexts.{drive_text};
-ghost use Rattle.opalport.specs.CommandLine.{top_line, option_rule, free_rule, required_rule, flag_rule, with_drive_rules, drive_line, drive_in, hba_line, explore_line, run_line, has_flag, range_rule, range_texts, optional_rule, threads_line, tokens_line, decode_line, opalport_line, text_of, naming_in, wanted_by, asked_of, asked_by};
+ghost use Rattle.opalport.specs.CommandLine.{top_line, option_rule, free_rule, required_rule, flag_rule, with_drive_rules, drive_line, drive_in, hba_line, explore_line, judge_line, run_line, has_flag, repeated_rule, texts_in, optional_rule, threads_line, tokens_line, decode_line, opalport_line, text_of, naming_in, wanted_by, asked_of, asked_by};
 
 use crate::controller_help::LINES as CONTROLLER_LINES;
 use crate::decode_help::KINDS;
+use crate::judge_help::TRANSCRIPTS;
 use clap::{Arg, ArgAction, ArgMatches, Command, Error};
 use std::alloc::{AllocError, Global};
 use tool::{DriveTexts, Naming};
@@ -50,6 +51,18 @@ pub struct ExploreTexts<'a> {
     pub find: &'a str,
 }
 
+/// The options of a judge, as they are written.
+#[derive(Drop)]
+pub struct JudgeTexts<'a> {
+    pub drive: DriveTexts<'a>,
+    /// The names of the freedoms that are given; none where all are.
+    pub freedoms: Vec<&'a str>,
+    /// Whether none is given.
+    pub strict: bool,
+    /// Whether nothing is told of what a freedom allows.
+    pub quiet: bool,
+}
+
 /// A token stream that is to be told as text.
 #[derive(Clone, Copy)]
 pub struct TokenTexts<'a> {
@@ -86,6 +99,8 @@ pub enum Request<'a> {
     Hba(HbaTexts<'a>),
     /// To run all short lists of the lines of a script.
     Explore(ExploreTexts<'a>),
+    /// To judge what another drive answered to a script.
+    Judge(JudgeTexts<'a>),
 }
 
 /// What `--explain` does.
@@ -223,15 +238,22 @@ fn with_optional<'a>(
     command.arg(argument)
 }
 
-/// Adds the option that gives a range, as often as there are ranges.
-fn with_ranges<'a>(command: Command<'a>, alloc: Global) -> Result<Command<'a>, AllocError>
-    ensures { IfOk result (λ c. app_of c ≡ with_rule (app_of command.entry) range_rule) }
+/// Adds an option that takes a value, as often as it is wanted.
+fn with_repeated<'a>(
+    alloc: Global,
+    command: Command<'a>,
+    name: &'static str,
+    value: &'static str,
+    help: &'static str,
+) -> Result<Command<'a>, AllocError>
+    ensures { IfOk result (λ c. app_of c
+        ≡ with_rule (app_of command.entry) (repeated_rule name.now)) }
 {
-    let option = Arg::new(alloc, "range")
-        .long("range")
-        .value_name("ROW")
+    let option = Arg::new(alloc, name)
+        .long(name)
+        .value_name(value)
         .action(ArgAction::Append)
-        .help("The words of a script's range line: N START LENGTH RE WE RL WL");
+        .help(help);
     command.arg(option)
 }
 
@@ -341,7 +363,9 @@ fn hba_command<'a>(alloc: Global) -> Result<Command<'a>, AllocError>
     ensures { IfOk result (λ command. app_of command ≡ hba_line) }
 {
     let about = "Serves a host over standard input and output, as an AHCI controller";
-    let c = with_ranges(drive_command(alloc, "hba", about, CONTROLLER_LINES)?, alloc)?;
+    let row = "The words of a script's range line: N START LENGTH RE WE RL WL";
+    let c = drive_command(alloc, "hba", about, CONTROLLER_LINES)?;
+    let c = with_repeated(alloc, c, "range", "ROW", row)?;
     let c = with_flag(c, alloc, "explain", EXPLAINED)?;
     with_free_option(c, alloc, "vcd", "FILE", WAVED)
 }
@@ -365,6 +389,19 @@ fn explore_command<'a>(alloc: Global) -> Result<Command<'a>, AllocError>
     )?;
     let c = with_option(c, alloc, "limit", "N", "100000", limit)?;
     with_free_option(c, alloc, "find", "TEXT", find)
+}
+
+/// The command that judges what another drive answered to a script, with the options that say which drive the model is,
+/// which freedoms are given, and whether what they allow is told.
+fn judge_command<'a>(alloc: Global) -> Result<Command<'a>, AllocError>
+    ensures { IfOk result (λ command. app_of command ≡ judge_line) }
+{
+    let about = "Judges what another drive answered to a script, from standard input";
+    let freedom = "Gives this freedom alone, of those below; without it all";
+    let c = drive_command(alloc, "judge", about, TRANSCRIPTS)?;
+    let c = with_repeated(alloc, c, "freedom", "NAME", freedom)?;
+    let c = with_flag(c, alloc, "strict", "Gives no freedom")?;
+    with_flag(c, alloc, "quiet", "Tells nothing of what a freedom allows")
 }
 
 /// The program, before its commands are there.
@@ -408,7 +445,8 @@ fn command<'a>(alloc: Global) -> Result<Command<'a>, AllocError>
     let c = with_command(c, decode_command(alloc))?;
     let c = with_command(c, hba_command(alloc))?;
     let c = with_command(c, drive_command(alloc, "draw", draw, ""))?;
-    with_command(c, explore_command(alloc))
+    let c = with_command(c, explore_command(alloc))?;
+    with_command(c, judge_command(alloc))
 }
 
 /// The text of an argument, as it is written.
@@ -512,24 +550,58 @@ fn decode_texts<'a>(matches: &ArgMatches<'a>) -> DecodeTexts<'a>
     }
 }
 
+/// The texts of an option that is given as often as it is wanted.
+fn texts_in<'a>(
+    alloc: Global,
+    matches: &ArgMatches<'a>,
+    id: &str,
+) -> Result<Vec<&'a str>, AllocError>
+    ensures { IfOk result (λ texts. map (λ s. s.now) texts.items
+        ≡ texts_in id.now (rows_of (found_of matches.now))) }
+{
+    let texts = Vec::from_slice(alloc, matches.get_strs(id).unwrap_or(&[]))?;
+    Ok(texts)
+}
+
 /// The options of a controller.
 fn hba_texts<'a>(alloc: Global, matches: &ArgMatches<'a>) -> Result<HbaTexts<'a>, AllocError>
     ensures drive { IfOk result (λ texts. drive_text texts.drive
         ≡ drive_in (rows_of (found_of matches.now))) }
     ensures ranges { IfOk result (λ texts. map (λ s. s.now) texts.ranges.items
-        ≡ range_texts (rows_of (found_of matches.now))) }
+        ≡ texts_in (codes "range") (rows_of (found_of matches.now))) }
     ensures explains { IfOk result (λ texts. texts.explains
         ≡ has_flag (codes "explain") (rows_of (found_of matches.now))) }
     ensures vcd { IfOk result (λ texts. texts.vcd.now
         ≡ text_of (codes "vcd") (rows_of (found_of matches.now))) }
 {
-    let ranges = Vec::from_slice(alloc, matches.get_strs("range").unwrap_or(&[]))?;
+    let ranges = texts_in(alloc, matches, "range")?;
     let drive = drive_texts(matches);
     Ok(HbaTexts {
         drive,
         ranges,
         explains: has_flag(matches, "explain"),
         vcd: text_of(matches, "vcd"),
+    })
+}
+
+/// The options of a judge.
+fn judge_texts<'a>(alloc: Global, matches: &ArgMatches<'a>) -> Result<JudgeTexts<'a>, AllocError>
+    ensures drive { IfOk result (λ texts. drive_text texts.drive
+        ≡ drive_in (rows_of (found_of matches.now))) }
+    ensures freedoms { IfOk result (λ texts. map (λ s. s.now) texts.freedoms.items
+        ≡ texts_in (codes "freedom") (rows_of (found_of matches.now))) }
+    ensures strict { IfOk result (λ texts. texts.strict
+        ≡ has_flag (codes "strict") (rows_of (found_of matches.now))) }
+    ensures quiet { IfOk result (λ texts. texts.quiet
+        ≡ has_flag (codes "quiet") (rows_of (found_of matches.now))) }
+{
+    let freedoms = texts_in(alloc, matches, "freedom")?;
+    let drive = drive_texts(matches);
+    Ok(JudgeTexts {
+        drive,
+        freedoms,
+        strict: has_flag(matches, "strict"),
+        quiet: has_flag(matches, "quiet"),
     })
 }
 
@@ -556,6 +628,10 @@ fn request_in<'a>(
         }
         "draw" => Ok(Some(Request::Draw(drive_texts(matches)))),
         "explore" => Ok(Some(Request::Explore(explore_texts(matches)))),
+        "judge" => {
+            let texts = judge_texts(alloc, matches)?;
+            Ok(Some(Request::Judge(texts)))
+        }
         _ => Ok(None),
     }
 }

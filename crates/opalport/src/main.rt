@@ -6,6 +6,7 @@ mod controller;
 mod controller_help;
 mod decode_help;
 mod error;
+mod judge_help;
 mod program;
 
 use crate::program::ends;

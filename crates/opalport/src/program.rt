@@ -4,13 +4,16 @@ ghost use Rattle.std.specs.Prelude.{◌≡◌, ◌≢◌, ◌≤◌, IfOk, Match
 ghost use Rattle.clap.specs.Words.{kind_of};
 ghost use Rattle.tool.specs.OptionTexts.{IsOfDrive, WritesConfig, drive_text};
 ghost use Rattle.tool.specs.Outcomes.{YieldsBy};
-ghost use Rattle.opalport.specs.Program.{WritesLimitedConfig, EndsByWords, DrawEnds, ExploreEnds, ExploresOn, RunEnds, Level0Ends, ThreadsEnd, TokensEnd, Ends};
+ghost use Rattle.opalport.specs.Program.{WritesLimitedConfig, EndsByWords, DrawEnds, ExploreEnds, ExploresOn, JudgeEnds, JudgesOn, RunEnds, Level0Ends, ThreadsEnd, TokensEnd, Ends};
 
-use crate::command_line::{ExploreTexts, LoadTexts, Request, RunTexts, TokenTexts, request_of};
+use crate::command_line::{
+    ExploreTexts, JudgeTexts, LoadTexts, Request, RunTexts, TokenTexts, request_of,
+};
 use crate::controller::serve_controller;
 use crate::error::ProgramError;
 use clap::error::ErrorKind;
 use decoded::run_decode;
+use judged::{FreedomFault, Freedoms, Terms, judge_transcript};
 use port_threads::{Load, LoadError, run_load};
 use runs::explored::{Plan, PlanFault, explore_script};
 use runs::recorded::{RecordError, draw_script, run_script_with_dump};
@@ -173,6 +176,63 @@ fn explore<R: Read + Drop, W: Write, E: Write>(
     explore_on(alloc, &options, texts, input, output, faults)
 }
 
+/// Judges what another drive answered to a script, with the freedoms of these names, and gives the status.
+fn judge_on<R: Read + Drop, W: Write, E: Write>(
+    alloc: Global,
+    options: &Options,
+    strict: bool,
+    names: &[&str],
+    quiet: bool,
+    input: R,
+    output: &mut W,
+    faults: &mut E,
+) -> Result<u8, RunError>
+    ensures most { IfOk result (λ status. status ≤ 2) }
+    ensures ends { IfOk result (λ status. JudgesOn options.now strict (map (λ s. s.now) names.now)
+        quiet (R.remaining input) status (W.contents output.old) (W.contents output.new)) }
+{
+    match Freedoms::asked(alloc, strict, names) {
+        Ok(freedoms) => {
+            let terms = Terms { freedoms, quiet };
+            judge_transcript(alloc, input, output, faults, options, &terms)
+        }
+        Err(FreedomFault::OutOfMemory) => Err(RunError::Memory),
+        Err(fault) => {
+            writeln!(faults, "error: {fault}").map_err(|_| RunError::Write)?;
+            Ok(2)
+        }
+    }
+}
+
+/// Judges what another drive answered to a script by the drive that the options open, and gives the status.
+fn judge<R: Read + Drop, W: Write, E: Write>(
+    alloc: Global,
+    texts: &JudgeTexts<'_>,
+    input: R,
+    output: &mut W,
+    faults: &mut E,
+) -> Result<u8, RunError>
+    ensures most { IfOk result (λ status. status ≤ 2) }
+    ensures ends { IfOk result (λ status. JudgeEnds (drive_text texts.now.drive)
+        (map (λ s. s.now) texts.now.freedoms.items) texts.now.strict texts.now.quiet
+        (R.remaining input) status (W.contents output.old) (W.contents output.new)) }
+{
+    let Some(options) = options_in(alloc, &texts.drive, faults)? else {
+        return Ok(2);
+    };
+    let names = texts.freedoms.as_slice();
+    judge_on(
+        alloc,
+        &options,
+        texts.strict,
+        names,
+        texts.quiet,
+        input,
+        output,
+        faults,
+    )
+}
+
 /// Prints the Level 0 discovery of a new drive, and gives the status.
 fn level0<W: Write, E: Write>(
     alloc: Global,
@@ -286,6 +346,7 @@ pub fn ends<T: Threads + Wait + Sync + Files, R: Read + Drop, W: Write, E: Write
             serve_controller(rt, alloc, &texts, input, output, faults)
         }
         Ok(Some(Request::Explore(texts))) => Ok(explore(alloc, &texts, input, output, faults)?),
+        Ok(Some(Request::Judge(texts))) => Ok(judge(alloc, &texts, input, output, faults)?),
         Ok(None) => Ok(2),
         Err(error) => Ok(tell(&error, output, faults)?),
     }

@@ -12,5 +12,7 @@ mod telling;
 mod tries;
 mod words;
 
+pub use answers::printed_text;
+pub use lines::Lines;
 pub use plan::{Plan, PlanFault, laws_of_plans};
-pub use script::explore_script;
+pub use script::{explore_script, whole_text};

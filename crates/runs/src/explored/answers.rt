@@ -11,7 +11,11 @@ use std::alloc::{AllocError, Global};
 use tool::{Options, RunError, run_text};
 
 /// What a script of these bytes prints.
-fn printed_text(alloc: Global, options: &Options, text: &[u8]) -> Result<Vec<u8>, RunError>
+///
+/// # Errors
+///
+/// Want of memory.
+pub fn printed_text(alloc: Global, options: &Options, text: &[u8]) -> Result<Vec<u8>, RunError>
     ensures { IfOk result (λ printed. printed.items ≡ printed_text options.now text.now) }
 {
     let mut printed = Vec::new(alloc);

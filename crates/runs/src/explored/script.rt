@@ -28,7 +28,11 @@ use tool::{
 };
 
 /// All that a reader gives.
-fn whole_text<R: Read + Drop>(alloc: Global, input: R) -> Result<Vec<u8>, RunError>
+///
+/// # Errors
+///
+/// Want of memory, and a read that fails.
+pub fn whole_text<R: Read + Drop>(alloc: Global, input: R) -> Result<Vec<u8>, RunError>
     ensures { IfOk result (λ text. IfSome (R.remaining input) (λ given. text.items ≡ given)) }
 {
     let mut input = input;

@@ -1,0 +1,6 @@
+mod BehindWords
+mod SameLines
+mod NamedFreedoms
+mod Numbered
+mod Verdicts
+mod OwnAnswers

@@ -1,0 +1,182 @@
+-- What is told of the answers of a transcript.
+use Rattle.std.specs.Prelude.{◌≡◌, ℕ, ◌==◌, Bool, true, false, ◌&&◌, List, [], ◌∷◌, ◌++◌, length, codes, decimal, Option, None, Some, IfSome, if◌then◌else◌}
+use Rattle.std.specs.List.{fold, flat_map, count_by}
+use Rattle.std.specs.Str.{bytes_eq}
+use Rattle.sp_cells.specs.Config.{Config}
+use Rattle.tool.specs.Outcomes.{RunOutcome, Yields, ends, run_outcome_of}
+use Rattle.tool.specs.Scripts.{script_lines}
+use Rattle.judged.specs.Transcripts.{with_line_end, entries_of, script_of}
+use Rattle.judged.specs.Answers.{said_behind, reasons_behind, wanted_of}
+use Rattle.judged.specs.Blanks.{other_line, other_text, first_answer}
+use Rattle.judged.specs.Freedoms.{freedom_between, freedom_name}
+use Rattle.judged.specs.declared.entry.Entry.{Entry}
+use Rattle.judged.specs.declared.freedom.Freedom.{Freedom}
+use Rattle.judged.specs.declared.ruling.Ruling.{Ruling}
+use Rattle.judged.specs.declared.ruling.Verdict.{Verdict}
+use Rattle.judged.specs.declared.ruling.Verdict.TheVariants.{Agrees, Allowed, Wrong}
+use Rattle.judged.specs.declared.judging.Judging.{Judging}
+use Rattle.judged.specs.declared.script.Terms.{Terms}
+
+-- whether two answers have the same lines
+abbrev pub are_same : List (List ℕ) → List (List ℕ) → Bool
+are_same [] [] = true
+are_same (x ∷ xs) (y ∷ ys) = bytes_eq x y && are_same xs ys
+are_same [] (y ∷ ys) = false
+are_same (x ∷ xs) [] = false
+
+-- The freedom by which an answer differs: in its first line, which is the drive's. Lines behind it are
+-- of the audit.
+abbrev pub freedom_of : List Freedom → List ℕ → List (List ℕ) → List (List ℕ) → List ℕ
+    → Option Freedom
+freedom_of freedoms asked (x ∷ xs) (y ∷ ys) other =
+    if are_same xs ys then freedom_between freedoms asked x y other else None
+freedom_of freedoms asked (x ∷ xs) [] other = None
+freedom_of freedoms asked [] wanted other = None
+
+-- lines in one, with a comma between each two
+abbrev pub behind_commas : List (List ℕ) → List ℕ
+behind_commas [] = []
+behind_commas (line ∷ lines) = codes ", " ++ line ++ behind_commas lines
+
+abbrev pub joined_answer : List (List ℕ) → List ℕ
+joined_answer [] = codes "nothing"
+joined_answer (line ∷ lines) = line ++ behind_commas lines
+
+-- an answer behind words
+abbrev pub answer_behind_words : List ℕ → List (List ℕ) → List ℕ
+answer_behind_words words lines = words ++ joined_answer lines
+
+-- what is told of a wrong answer, and behind it why the model says what it does
+abbrev pub wrong_text : List (List ℕ) → List (List ℕ) → List ℕ → List ℕ
+wrong_text heard wanted reasons =
+    answer_behind_words (codes "the drive said ") heard
+    ++ answer_behind_words (codes "; it must say ") wanted ++ 10 ∷ reasons
+
+-- an answer that is not the model's
+abbrev pub verdict_beside : Option Freedom → List (List ℕ) → List (List ℕ) → List ℕ → Verdict
+verdict_beside (Some freedom) heard wanted reasons = Allowed freedom
+verdict_beside None heard wanted reasons = Wrong (wrong_text heard wanted reasons)
+
+abbrev pub answers_verdict : List Freedom → List ℕ → List (List ℕ) → List (List ℕ) → List ℕ
+    → List ℕ → Verdict
+answers_verdict freedoms asked heard wanted other reasons =
+    if are_same heard wanted then Agrees
+    else verdict_beside (freedom_of freedoms asked heard wanted other) heard wanted reasons
+
+-- the script before a line, and the line
+abbrev pub through : List ℕ → Entry → List ℕ
+through before entry = before ++ with_line_end entry.line
+
+-- what must be said to the line of an entry, behind the script before it
+abbrev pub wanted_at : Config → List ℕ → Entry → List (List ℕ)
+wanted_at config before entry =
+    wanted_of entry.answers (said_behind config before (through before entry))
+
+-- what the model says first where every write before wrote another byte
+abbrev pub other_at : Config → List ℕ → Entry → List ℕ
+other_at config other entry =
+    first_answer (said_behind config other (other ++ other_line entry.line ++ 13 ∷ 10 ∷ []))
+
+abbrev pub entry_verdict : Config → List Freedom → List ℕ → List ℕ → Entry → Verdict
+entry_verdict config freedoms before other entry =
+    answers_verdict freedoms entry.line entry.answers (wanted_at config before entry)
+    (other_at config other entry) (reasons_behind config before (through before entry))
+
+abbrev pub ruling_at : Config → List Freedom → List ℕ → List ℕ → Entry → Ruling
+ruling_at config freedoms before other entry =
+    record { number = entry.number; verdict = entry_verdict config freedoms before other entry }
+
+-- a line without answers is not judged: what the drive said was not seen, and is taken for the model's
+abbrev pub rulings_at : Config → List Freedom → List ℕ → List ℕ → Entry → List Ruling
+rulings_at config freedoms before other entry =
+    if length entry.answers == 0 then [] else ruling_at config freedoms before other entry ∷ []
+
+-- behind each line the model goes on by its own answer
+abbrev pub with_entry : Config → List Freedom → Judging → Entry → Judging
+with_entry config freedoms judging entry = record {
+  script = judging.script ++ entry.script;
+  other = judging.other ++ other_text entry;
+  rulings = judging.rulings ++ rulings_at config freedoms judging.script judging.other entry;
+}
+
+abbrev pub nothing_judged : Judging
+nothing_judged = record { script = []; other = []; rulings = [] }
+
+abbrev pub rulings_of : Config → List Freedom → List Entry → List Ruling
+rulings_of config freedoms entries =
+    (fold (with_entry config freedoms) nothing_judged entries).rulings
+
+abbrev pub is_agreement : Verdict → Bool
+is_agreement Agrees = true
+is_agreement (Allowed freedom) = false
+is_agreement (Wrong text) = false
+
+abbrev pub is_allowance : Verdict → Bool
+is_allowance Agrees = false
+is_allowance (Allowed freedom) = true
+is_allowance (Wrong text) = false
+
+abbrev pub is_wrong : Verdict → Bool
+is_wrong Agrees = false
+is_wrong (Allowed freedom) = false
+is_wrong (Wrong text) = true
+
+-- how many answers were judged so
+abbrev pub how_many : (Verdict → Bool) → List Ruling → ℕ
+how_many test rulings = count_by (λ (ruling : Ruling). test ruling.verdict) rulings
+
+-- what is told of an answer: nothing where it is the model's, and quietly nothing where a freedom allows it
+abbrev pub verdict_text : Bool → ℕ → Verdict → List ℕ
+verdict_text quiet number Agrees = []
+verdict_text true number (Allowed freedom) = []
+verdict_text false number (Allowed freedom) =
+    codes "line " ++ decimal number ++ codes ": allowed: " ++ freedom_name freedom ++ 10 ∷ []
+verdict_text quiet number (Wrong text) =
+    codes "line " ++ decimal number ++ codes ": wrong: " ++ text
+
+abbrev pub ruling_text : Bool → Ruling → List ℕ
+ruling_text quiet ruling = verdict_text quiet ruling.number ruling.verdict
+
+-- a number between two words
+abbrev pub count_between : List ℕ → ℕ → List ℕ → List ℕ
+count_between front number behind = front ++ decimal number ++ behind
+
+-- how many answers were judged, and how
+abbrev pub summary_text : List Ruling → List ℕ
+summary_text rulings = count_between (codes "judged ") (length rulings) (codes " answers: ")
+    ++ count_between [] (how_many is_agreement rulings) (codes " agree, ")
+    ++ count_between [] (how_many is_allowance rulings) (codes " by a freedom, ")
+    ++ count_between [] (how_many is_wrong rulings) (codes " wrong" ++ 10 ∷ [])
+
+abbrev pub rulings_text : Bool → List Ruling → List ℕ
+rulings_text quiet rulings = flat_map (ruling_text quiet) rulings ++ summary_text rulings
+
+-- a wrong answer is told by the status
+abbrev pub rulings_told : Bool → List Ruling → RunOutcome
+rulings_told quiet rulings = record {
+  text = rulings_text quiet rulings;
+  status = if how_many is_wrong rulings == 0 then 0 else 1;
+}
+
+abbrev pub judged_entries : Config → Terms → List Entry → RunOutcome
+judged_entries config terms entries =
+    rulings_told terms.quiet (rulings_of config terms.freedoms entries)
+
+-- a transcript whose script does not run to its end is not judged
+abbrev pub judged_behind : Config → Terms → List Entry → ℕ → RunOutcome
+judged_behind config terms entries status =
+    if status == 0 then judged_entries config terms entries else ends 2
+
+-- what a transcript comes to
+abbrev pub judgement_of_entries : Config → Terms → List Entry → RunOutcome
+judgement_of_entries config terms entries =
+    judged_behind config terms entries (run_outcome_of config (script_of entries)).status
+
+abbrev pub judgement_of : Config → Terms → List ℕ → RunOutcome
+judgement_of config terms text =
+    judgement_of_entries config terms (entries_of (script_lines text))
+
+abbrev pub JudgesTranscript : Config → Terms → Option (List ℕ) → ℕ → Option (List ℕ)
+    → Option (List ℕ) → Type 0
+JudgesTranscript config terms input status before after =
+    IfSome input (λ text. Yields (judgement_of config terms text) status before after)

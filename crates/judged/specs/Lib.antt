@@ -1,0 +1,6 @@
+pub mod Transcripts
+pub mod Answers
+pub mod Blanks
+pub mod Freedoms
+pub mod Judgements
+pub mod Laws
