@@ -3,6 +3,7 @@ use Rattle.std.proofs.Common.{◌≡◌, ◌≢◌, ℕ, zero, suc, ◌<◌, Boo
 use Rattle.std.proofs.lemmas.Bool.{false≢true}
 use Rattle.std.proofs.lemmas.Slice.Eq.{bytes_eq-Decides}
 use Rattle.judged.specs.Judgements.{are_same}
+use Rattle.judged.specs.Blanks.{differs_in_blanks, may_be}
 use Rattle.judged.specs.Freedoms.{differs_within, may_stand}
 use Rattle.judged.specs.declared.freedom.Span.{Span}
 
@@ -26,14 +27,6 @@ fewer (x ∷ xs) [] differs = refl
 fewer (x ∷ xs) (y ∷ ys) differs =
     and-false (bytes_eq x y) (are_same xs ys) (fewer xs ys (λ e. differs (ap suc e)))
 
--- those from a place on, by the lines at the place and those behind it
-pub past : (xs ys : List (List ℕ)) (i : ℕ) (d e : List ℕ) → i < length xs → i < length ys
-    → are_same (drop i xs) (drop i ys) ≡ (bytes_eq (get_or xs i d) (get_or ys i e) && are_same (drop (suc i) xs) (drop (suc i) ys))
-past [] ys i d e a b = absurd (omega (arith, a))
-past (x ∷ xs) [] i d e a b = absurd (omega (arith, b))
-past (x ∷ xs) (y ∷ ys) zero d e a b = refl
-past (x ∷ xs) (y ∷ ys) (suc i) d e a b = past xs ys i d e (omega (arith, a)) (omega (arith, b))
-
 pub are_same-Decides : (xs ys : List (List ℕ)) → Decides (are_same xs ys) (xs ≡ ys)
 are_same-Decides [] [] = (λ _. refl, λ _. refl)
 are_same-Decides [] (y ∷ ys) = (λ e. absurd (false≢true e), λ e. absurd (omega (arith, ap length e)))
@@ -56,10 +49,21 @@ shorter spans place (x ∷ xs) (y ∷ ys) differs =
     and-false (may_stand spans place x y) (differs_within spans (suc place) xs ys)
     (shorter spans (suc place) xs ys (λ e. differs (ap suc e)))
 
-pub further : (spans : List Span) (xs ys : List ℕ) (i at : ℕ) (d e : ℕ) → i < length xs → i < length ys
-    → differs_within spans at (drop i xs) (drop i ys)
-    ≡ (may_stand spans at (get_or xs i d) (get_or ys i e) && differs_within spans (suc at) (drop (suc i) xs) (drop (suc i) ys))
-further spans [] ys i at d e a b = absurd (omega (arith, a))
-further spans (x ∷ xs) [] i at d e a b = absurd (omega (arith, b))
-further spans (x ∷ xs) (y ∷ ys) zero at d e a b = refl
-further spans (x ∷ xs) (y ∷ ys) (suc i) at d e a b = further spans xs ys i at d e (omega (arith, a)) (omega (arith, b))
+-- not as many as are wanted
+pub wanted_shorter : (xs ys zs : List ℕ) → length ys ≢ length xs → differs_in_blanks xs ys zs ≡ false
+wanted_shorter [] [] zs differs = absurd (differs refl)
+wanted_shorter [] (y ∷ ys) zs differs = refl
+wanted_shorter (x ∷ xs) [] zs differs = refl
+wanted_shorter (x ∷ xs) (y ∷ ys) [] differs = refl
+wanted_shorter (x ∷ xs) (y ∷ ys) (z ∷ zs) differs =
+    and-false (may_be x y z) (differs_in_blanks xs ys zs) (wanted_shorter xs ys zs (λ e. differs (ap suc e)))
+
+-- nor as many as in the other run
+pub other_shorter : (xs ys zs : List ℕ) → length zs ≢ length xs → differs_in_blanks xs ys zs ≡ false
+other_shorter [] [] [] differs = absurd (differs refl)
+other_shorter [] [] (z ∷ zs) differs = refl
+other_shorter [] (y ∷ ys) zs differs = refl
+other_shorter (x ∷ xs) [] zs differs = refl
+other_shorter (x ∷ xs) (y ∷ ys) [] differs = refl
+other_shorter (x ∷ xs) (y ∷ ys) (z ∷ zs) differs =
+    and-false (may_be x y z) (differs_in_blanks xs ys zs) (other_shorter xs ys zs (λ e. differs (ap suc e)))

@@ -63,6 +63,10 @@ is_digit byte = (nat_le 48 byte && nat_le byte 57) || (nat_le 97 byte && nat_le 
 abbrev pub is_blank_digit : ℕ → ℕ → ℕ → Bool
 is_blank_digit heard wanted other = is_digit heard && wanted == 48 && other == 48
 
+abbrev pub may_be : ℕ → ℕ → ℕ → Bool
+may_be heard wanted other = heard == wanted || is_blank_digit heard wanted other
+
+-- two lines differ in such digits alone
 abbrev pub differs_in_blanks : List ℕ → List ℕ → List ℕ → Bool
 differs_in_blanks [] [] [] = true
 differs_in_blanks [] [] (z ∷ zs) = false
@@ -70,7 +74,7 @@ differs_in_blanks [] (y ∷ ys) other = false
 differs_in_blanks (x ∷ xs) [] other = false
 differs_in_blanks (x ∷ xs) (y ∷ ys) [] = false
 differs_in_blanks (x ∷ xs) (y ∷ ys) (z ∷ zs) =
-    (x == y || is_blank_digit x y z) && differs_in_blanks xs ys zs
+    may_be x y z && differs_in_blanks xs ys zs
 
 -- a read that was served, and differs in such digits alone
 abbrev pub differs_by_blanks : List ℕ → List ℕ → List ℕ → Bool

@@ -2,7 +2,7 @@
 
 ghost use Rattle.std.specs.Prelude.{◌≡◌, ◌++◌, map, take, OnOk, IfOk};
 ghost use Rattle.script_lines.specs.Words.{after_words};
-ghost use Rattle.judged.specs.Blanks.{other_digit, byte_place, with_other_digits, other_line, expects, other_text, first_answer, is_digit, is_blank_digit, differs_in_blanks, differs_by_blanks};
+ghost use Rattle.judged.specs.Blanks.{other_digit, byte_place, with_other_digits, other_line, expects, other_text, first_answer, is_digit, is_blank_digit, may_be, differs_in_blanks, differs_by_blanks};
 
 use crate::entry::Entry;
 use crate::text::Text;
@@ -136,17 +136,26 @@ fn is_blank_digit(heard: u8, wanted: u8, other: u8) -> bool
     is_digit(heard) && wanted == b'0' && other == b'0'
 }
 
+/// Whether a byte may stand where another is wanted.
+fn may_be(heard: u8, wanted: u8, other: u8) -> bool
+    ensures { result ≡ may_be heard wanted other }
+{
+    heard == wanted || is_blank_digit(heard, wanted, other)
+}
+
 /// Whether two lines differ in such digits alone.
 fn differs_in_blanks(heard: &[u8], wanted: &[u8], other: &[u8]) -> bool
     ensures { result ≡ differs_in_blanks heard.now wanted.now other.now }
 {
     let size = heard.len();
-    if wanted.len() != size || other.len() != size {
+    if wanted.len() != size {
+        return false;
+    }
+    if other.len() != size {
         return false;
     }
     for i in 0..size {
-        let is_same = heard[i] == wanted[i];
-        if !(is_same || is_blank_digit(heard[i], wanted[i], other[i])) {
+        if !may_be(heard[i], wanted[i], other[i]) {
             return false;
         }
     }

@@ -196,6 +196,17 @@ has_flag name rows = bytes_eq (text_of name rows) (codes "true")
 abbrev pub naming_in : List Row → Naming
 naming_in rows = naming_of (has_flag (codes "names") rows)
 
+-- what it asks for that takes an option as often as it is wanted
+abbrev pub repeated_asked : Text → List Row → Option Wanted
+repeated_asked name rows =
+    if bytes_eq name (codes "hba")
+    then Some (hba (has_flag (codes "explain") rows) (drive_in rows) (texts_in (codes "range") rows)
+    (text_of (codes "vcd") rows))
+    else if bytes_eq name (codes "judge")
+    then Some (judge (drive_in rows) (texts_in (codes "freedom") rows)
+    (has_flag (codes "strict") rows) (has_flag (codes "quiet") rows))
+    else None
+
 -- what a subcommand with these arguments asks for
 abbrev pub asked_of : Text × List Row → Option Wanted
 asked_of (name, rows) =
@@ -208,17 +219,11 @@ asked_of (name, rows) =
     then Some (tokens (text_of (codes "hex") rows) (naming_in rows))
     else if bytes_eq name (codes "decode")
     then Some (decode (text_of (codes "kind") rows) (text_of (codes "hex") rows))
-    else if bytes_eq name (codes "hba")
-    then Some (hba (has_flag (codes "explain") rows) (drive_in rows) (texts_in (codes "range") rows)
-    (text_of (codes "vcd") rows))
     else if bytes_eq name (codes "draw") then Some (draw (drive_in rows))
     else if bytes_eq name (codes "explore")
     then Some (explore (drive_in rows) (text_of (codes "steps") rows) (text_of (codes "limit") rows)
     (text_of (codes "find") rows))
-    else if bytes_eq name (codes "judge")
-    then Some (judge (drive_in rows) (texts_in (codes "freedom") rows)
-    (has_flag (codes "strict") rows) (has_flag (codes "quiet") rows))
-    else None
+    else repeated_asked name rows
 
 -- what the words of a command line ask for, where they are one
 abbrev pub asked_by : List Text → Option Wanted

@@ -3,7 +3,7 @@
 ghost use Rattle.std.specs.Prelude.{◌≡◌, IfOk, true, map, option_map, option_and_then, string_bytes, codes};
 ghost use Rattle.clap.specs.Words.{App, FailsBy, app_of, fault_of, first_of, found_of, new_app, rows_of, subcommand_rows_of, with_rule, with_subcommand};
 ghost use Rattle.tool.specs.OptionTexts.{drive_text};
-ghost use Rattle.opalport.specs.CommandLine.{top_line, option_rule, free_rule, required_rule, flag_rule, with_drive_rules, drive_line, drive_in, hba_line, explore_line, judge_line, run_line, has_flag, repeated_rule, texts_in, optional_rule, threads_line, tokens_line, decode_line, opalport_line, text_of, naming_in, wanted_by, asked_of, asked_by};
+ghost use Rattle.opalport.specs.CommandLine.{top_line, option_rule, free_rule, required_rule, flag_rule, with_drive_rules, drive_line, drive_in, hba_line, explore_line, judge_line, run_line, has_flag, repeated_rule, texts_in, optional_rule, threads_line, tokens_line, decode_line, opalport_line, text_of, naming_in, wanted_by, repeated_asked, asked_of, asked_by};
 
 use crate::controller_help::LINES as CONTROLLER_LINES;
 use crate::decode_help::KINDS;
@@ -605,6 +605,28 @@ fn judge_texts<'a>(alloc: Global, matches: &ArgMatches<'a>) -> Result<JudgeTexts
     })
 }
 
+/// What a subcommand asks for that takes an option as often as it is wanted.
+fn repeated_request<'a>(
+    alloc: Global,
+    name: &str,
+    matches: &ArgMatches<'a>,
+) -> Result<Option<Request<'a>>, AllocError>
+    ensures { IfOk result (λ request. option_map wanted_by request
+        ≡ repeated_asked name.now (rows_of (found_of matches.now))) }
+{
+    match name {
+        "hba" => {
+            let texts = hba_texts(alloc, matches)?;
+            Ok(Some(Request::Hba(texts)))
+        }
+        "judge" => {
+            let texts = judge_texts(alloc, matches)?;
+            Ok(Some(Request::Judge(texts)))
+        }
+        _ => Ok(None),
+    }
+}
+
 /// What the matches of a command line ask for.
 fn request_in<'a>(
     alloc: Global,
@@ -622,17 +644,9 @@ fn request_in<'a>(
         "threads" => Ok(Some(Request::Threads(load_texts(matches)))),
         "tokens" => Ok(Some(Request::Tokens(token_texts(matches)))),
         "decode" => Ok(Some(Request::Decode(decode_texts(matches)))),
-        "hba" => {
-            let texts = hba_texts(alloc, matches)?;
-            Ok(Some(Request::Hba(texts)))
-        }
         "draw" => Ok(Some(Request::Draw(drive_texts(matches)))),
         "explore" => Ok(Some(Request::Explore(explore_texts(matches)))),
-        "judge" => {
-            let texts = judge_texts(alloc, matches)?;
-            Ok(Some(Request::Judge(texts)))
-        }
-        _ => Ok(None),
+        _ => repeated_request(alloc, name, matches),
     }
 }
 
