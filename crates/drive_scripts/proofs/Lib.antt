@@ -1,3 +1,4 @@
+mod Holders
 pub mod Acts
 pub mod Added
 pub mod Printed

@@ -1,7 +1,7 @@
 //! What explains the denials of a drive that a script runs on.
 
 ghost use Rattle.std.specs.Prelude.{◌≡◌, ◌++◌, OnOk};
-ghost use Rattle.drive_scripts.specs.Explanations.{sp_asked, pending_text};
+ghost use Rattle.drive_scripts.specs.Explanations.{sp_asked, pending_text, session_named_on, sp_denied, session_denied};
 
 use audit::rules::Rule;
 use audit::{AttemptFailure, Why};
@@ -11,10 +11,12 @@ use reasons::details::details_of;
 use reasons::explained::{Cause, Chronicle, Counted, SessionChronicle, Source, cause_in};
 use reasons::remedies::{append_object_name, sp_object};
 use reasons::rulings::{command_in, ruling_of};
+use reasons::sent::session_named;
 use script_lines::Report;
 use sp_cells::Sp;
 use std::alloc::{AllocError, Global};
 use std::marker::Model;
+use transactions::SessionId;
 use trusted_cmds::Command;
 
 /// The SP whose rows a denial went by that a transaction may have changed.
@@ -30,6 +32,34 @@ fn sp_asked(why: &Why) -> Option<Sp>
         } => Some(*sp),
         _ => None,
     }
+}
+
+/// The session that the frame of a payload names, on an SP.
+fn session_named_on(payload: &[u8], sp: Sp) -> SessionId
+    ensures { result ≡ session_named_on payload.now sp }
+{
+    SessionId {
+        tsn: session_named(payload),
+        sp,
+    }
+}
+
+/// The SP in whose session a command was denied; a transfer is denied in none.
+fn sp_denied(why: &Why) -> Sp
+    ensures { result ≡ sp_denied why.now }
+{
+    match why {
+        Why::NoEntryHolds { sp, .. } => *sp,
+        Why::NoAccessRow { sp, .. } | Why::AttemptFailed { sp, .. } => *sp,
+        _ => Sp::Locking,
+    }
+}
+
+/// The session in which a command with this payload was denied.
+fn session_denied(payload: &[u8], why: &Why) -> SessionId
+    ensures { result ≡ session_denied payload.now why.now }
+{
+    session_named_on(payload, sp_denied(why))
 }
 
 /// Appends that a transaction is open on an SP, if one is, in a line with its line feed.
@@ -75,15 +105,13 @@ impl Explainer {
     ghost use Rattle.sp_cells.specs.declared.names.Sp.{Sp};
     ghost use Rattle.history.specs.Resets.{reset_kind_number};
     ghost use Rattle.drive.specs.State.{Agrees};
-    ghost use Rattle.reasons.specs.Onsets.{Sourced, bare_acts, cause_at, held_since, holds_after};
-    ghost use Rattle.reasons.specs.Conditions.{range_place};
-    ghost use Rattle.reasons.specs.Reasons.{told_since};
+    ghost use Rattle.reasons.specs.Onsets.{Sourced, bare_acts, cause_at};
     ghost use Rattle.drive_scripts.specs.Kept.{RecountsAll};
     ghost use Rattle.reasons.specs.declared.explained.onset.Counted.TheVariants.{Acts};
     ghost use Rattle.reasons.specs.Lives.{life_of};
     ghost use Rattle.reasons.specs.Details.{details_text};
     ghost use Rattle.reasons.specs.Rulings.{command_carried, ruled_text};
-    ghost use Rattle.drive_scripts.specs.Explanations.{attributed, once_served, open_text, has_pending, seen_after, refusal_text, denial_text};
+    ghost use Rattle.drive_scripts.specs.Explanations.{attributed, once_served, open_text, session_denied, seen_after, told_after, refusal_text, denial_text};
 
     /// Of a drive that has done no act.
     pub fn new(alloc: Global, drive: &Drive) -> Explainer
@@ -147,14 +175,6 @@ impl Explainer {
         self.note(drive, source, Cause::ResetBy(kind.number()));
     }
 
-    /// Whether a transaction is open on one of the SPs.
-    fn has_pending(&self, drive: &Drive) -> bool
-        ensures { (o : Origin) (acts : List Act) → Agrees drive.now o acts
-            → result ≡ has_pending (log o acts) }
-    {
-        drive.has_transaction(Sp::Admin) || drive.has_transaction(Sp::Locking)
-    }
-
     /// What more is told of the bytes of a command that a rule refused.
     fn detail_lines(
         &self,
@@ -165,20 +185,14 @@ impl Explainer {
     ) -> Result<Vec<u8>, AllocError>
         ensures { IfOk result (λ text. (o : Origin) (past : List Sourced) (acts : List Act)
             → Agrees drive.now o acts → RecountsAll self.now o past
-            → text.items ≡ details_text counted (seen_after o acts) (life_of o past) payload.now
-            rule) }
+            → text.items ≡ details_text counted (seen_after o acts payload.now) (life_of o past)
+            payload.now rule) }
     {
-        let is_open = self.has_pending(drive);
-        let rows = drive.in_force();
-        let text = details_of(
-            self.alloc,
-            counted,
-            &rows,
-            is_open,
-            &self.sessions,
-            payload,
-            rule,
-        )?;
+        let session = session_named_on(payload, Sp::Locking);
+        let seen = drive.seen_by(session);
+        let room = drive.room(session);
+        let sessions = &self.sessions;
+        let text = details_of(self.alloc, counted, &seen, room, sessions, payload, rule)?;
         Ok(text)
     }
 
@@ -237,35 +251,44 @@ impl Explainer {
         }
     }
 
-    /// The lines that tell since when what denied a command has been in force, and what would lift it.
-    fn explanation(&self, counted: Counted, drive: &Drive, why: &Why) -> Result<Vec<u8>, AllocError>
+    /// The lines that tell what the session of a denied command holds, since when what denied it has been in force, and what
+    /// would lift it.
+    fn explanation(
+        &self,
+        counted: Counted,
+        drive: &Drive,
+        session: SessionId,
+        why: &Why,
+    ) -> Result<Vec<u8>, AllocError>
         ensures { IfOk result (λ text. (o : Origin) (past : List Sourced) (acts : List Act)
             → Agrees drive.now o acts → RecountsAll self.now o past
-            → text.items ≡ told_since counted (λ c. held_since (holds_after o c) past)
-            (range_place (in_force o (log o (bare_acts past)))) o.tables.config.profile
-            (in_force o (log o acts)) why.now) }
+            → text.items ≡ told_after counted o past acts session why.now) }
     {
         let rows = drive.in_force();
-        let text = self.chronicle.explain_by(self.alloc, counted, &rows, why)?;
+        let seen = drive.seen_by(session);
+        let held = drive.authorities(session);
+        let number = session.tsn;
+        let text = self
+            .chronicle
+            .explain_by(self.alloc, counted, &rows, &seen, number, held, why)?;
         Ok(text)
     }
 
-    /// The lines that tell what denied a command, each with its line feed.
+    /// The lines that tell what denied a command with these bytes, each with its line feed.
     fn denial_lines(
         &self,
         counted: Counted,
         drive: &Drive,
+        payload: &[u8],
         why: &Why,
     ) -> Result<Vec<u8>, AllocError>
         ensures { IfOk result (λ text. (o : Origin) (past : List Sourced) (acts : List Act)
             → Agrees drive.now o acts → RecountsAll self.now o past
             → text.items ≡ open_text (log o acts) (sp_asked why.now)
-            ++ told_since counted (λ c. held_since (holds_after o c) past)
-            (range_place (in_force o (log o (bare_acts past)))) o.tables.config.profile
-            (in_force o (log o acts)) why.now) }
+            ++ told_after counted o past acts (session_denied payload.now why.now) why.now) }
     {
         let mut text = self.open_line(drive, sp_asked(why))?;
-        let told = self.explanation(counted, drive, why)?;
+        let told = self.explanation(counted, drive, session_denied(payload, why), why)?;
         text.extend_from_slice(&told)?;
         Ok(text)
     }
@@ -291,7 +314,7 @@ impl Explainer {
             (option_map (λ why. why.now) denied.entry) rule) }
     {
         match denied {
-            Some(why) => self.denial_lines(counted, drive, why),
+            Some(why) => self.denial_lines(counted, drive, payload, why),
             None => self.rule_lines(counted, drive, command, payload, rule),
         }
     }

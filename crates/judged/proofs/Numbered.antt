@@ -1,5 +1,5 @@
 -- Numbered lines, one after the other.
-use Rattle.std.proofs.Common.{◌≡◌, ℕ, zero, suc, ◌+◌, ◌<◌, List, [], ◌∷◌, ◌++◌, length, drop, get_or, fold, refl, sym, ap, ◌∙◌, arith}
+use Rattle.std.proofs.Common.{◌≡◌, ℕ, zero, suc, ◌+◌, ◌<◌, List, [], ◌∷◌, length, drop, get_or, fold, refl, sym, ap, ◌∙◌, arith}
 use Rattle.tool.specs.Scripts.{ScriptLine, with_numbers}
 
 -- from a place on: the line at the place, and those behind it

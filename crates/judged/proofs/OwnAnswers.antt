@@ -1,13 +1,13 @@
 -- The transcript that the model's own answers to a script make.
-use Rattle.std.proofs.Common.{◌≡◌, ℕ, zero, suc, ◌+◌, ◌==◌, rules, Bool, true, false, not, ◌&&◌, ◌||◌, cond, List, [], ◌∷◌, ◌++◌, map, length, fold, filter, flat_map, inl, inr, ◌⊎◌, refl, sym, ap, ap₂, ◌∙◌, subst, arith, append_assoc, append-nil}
+use Rattle.std.proofs.Common.{◌≡◌, ℕ, ◌+◌, ◌==◌, rules, Bool, true, false, not, ◌&&◌, ◌||◌, cond, List, [], ◌∷◌, ◌++◌, map, length, fold, filter, inl, inr, ◌⊎◌, refl, sym, ap, ap₂, ◌∙◌, arith, append_assoc, append-nil}
 use Rattle.std.proofs.lemmas.Bool.{false≢true}
 use Rattle.std.proofs.lemmas.Grind.{fold-append}
 use Rattle.std.specs.List.{list_any, list_all}
 use Rattle.sp_cells.specs.Config.{Config}
-use Rattle.tool.specs.Scripts.{ScriptLine, is_skipped, with_numbers}
-use Rattle.judged.specs.Transcripts.{with_line_end, answer_mark, is_answer_line, is_answer, answer_told, fresh_entry, with_answer, with_remark, line_added, nothing_read, all_entries, holds_remarks, entries_of}
+use Rattle.tool.specs.Scripts.{is_skipped, with_numbers}
+use Rattle.judged.specs.Transcripts.{with_line_end, answer_mark, is_answer_line, answer_told, fresh_entry, with_answer, with_remark, line_added, nothing_read, all_entries, holds_remarks}
 use Rattle.judged.specs.Answers.{said_behind, is_audit, wanted_of, reasons_behind}
-use Rattle.judged.specs.Judgements.{are_same, freedom_of, verdict_beside, answers_verdict, entry_verdict, wanted_at, other_at, through, ruling_at, rulings_at, with_entry, nothing_judged, rulings_of, is_agreement}
+use Rattle.judged.specs.Judgements.{are_same, freedom_of, verdict_beside, entry_verdict, wanted_at, other_at, through, ruling_at, rulings_at, with_entry, nothing_judged, rulings_of, is_agreement}
 use Rattle.judged.specs.Laws.{OwnAnswersLaw, answer_line, marks_for, own_lines, own_transcript}
 use Rattle.judged.specs.declared.entry.Entry.{Entry}
 use Rattle.judged.specs.declared.freedom.Freedom.{Freedom}

@@ -1,8 +1,8 @@
 -- What a verdict says of the answers.
 use Rattle.std.proofs.Common.{◌≡◌, ◌≢◌, ℕ, zero, suc, ◌<◌, Bool, true, false, cond, List, [], ◌∷◌, length, slice_index_or, Option, None, Some, is_some, unwrap_or, find, refl, sym, ap, ◌∙◌, subst, arith, Contains}
 use Rattle.std.proofs.lemmas.Bool.{false≢true}
-use Rattle.judged.specs.Freedoms.{is_by, freedom_between, freedom_named, freedom_name}
-use Rattle.judged.specs.Judgements.{are_same, freedom_of, verdict_beside, answers_verdict, is_agreement, is_allowance, is_wrong, wrong_text}
+use Rattle.judged.specs.Freedoms.{is_by, freedom_between}
+use Rattle.judged.specs.Judgements.{are_same, freedom_of, verdict_beside, is_agreement, is_allowance, is_wrong}
 use Rattle.judged.specs.Laws.{AgreesLaw, AllowsLaw, WrongLaw, NamesLaw, DiffersBy}
 use Rattle.judged.specs.declared.freedom.Freedom.{Freedom}
 use Rattle.judged.specs.declared.freedom.Freedom.TheVariants.{ErrorBits, BlankSectors, VendorBytes, Identity}

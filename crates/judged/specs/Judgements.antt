@@ -1,5 +1,5 @@
 -- What is told of the answers of a transcript.
-use Rattle.std.specs.Prelude.{◌≡◌, ℕ, ◌==◌, Bool, true, false, ◌&&◌, List, [], ◌∷◌, ◌++◌, length, codes, decimal, Option, None, Some, IfSome, if◌then◌else◌}
+use Rattle.std.specs.Prelude.{ℕ, ◌==◌, Bool, true, false, ◌&&◌, List, [], ◌∷◌, ◌++◌, length, codes, decimal, Option, None, Some, IfSome, if◌then◌else◌}
 use Rattle.std.specs.List.{fold, flat_map, count_by}
 use Rattle.std.specs.Str.{bytes_eq}
 use Rattle.sp_cells.specs.Config.{Config}

@@ -1,13 +1,15 @@
 -- What of a call a rule found at fault: the range that another one would meet, the rows of a byte table. A call is read as its
--- session on the Locking SP reads it; what a Set would make of a range is told where no transaction is open, so that its session
--- sees what is in force. The texts are this project's:
+-- session on the Locking SP reads it, and what a Set would make of a range is told by the rows that this session sees, by which
+-- the Set was judged. The texts are this project's:
 --   because Locking_Range2 RangeStart = 105 and RangeLength = 10 would meet Locking_Range1 RangeStart = 100 and RangeLength = 10
 --   because Locking_Range2 RangeStart = 200 and RangeLength = 1024 would end behind the last sector
 --   because rows 4096 to 4097 are asked for, and the table has 4096
 --   because 16 rows are set from row 4090 on, and the table has 4096
 --   because the response would have 65481 bytes of tokens
+--   because the response would have 2010 bytes of tokens, and its host takes 1992
 use Rattle.std.specs.Prelude.{◌≡◌, ℕ, zero, suc, ◌+◌, ◌-◌, ◌^◌, ◌==◌, Bool, true, false, not, ◌&&◌, nat_le, nat_lt, List, [], ◌∷◌, ◌++◌, length, Option, None, Some, is_some, unwrap_or, codes, if◌then◌else◌}
 use Rattle.basics.specs.declared.profile.Profile.{Profile}
+use Rattle.basics.specs.declared.profile.Profile.TheVariants.{Base, Field, Opal}
 use Rattle.compacket.specs.Frames.{reading as frame_in}
 use Rattle.sp_cells.specs.declared.names.Sp.{Sp}
 use Rattle.sp_cells.specs.declared.names.Sp.TheVariants.{Locking}
@@ -41,19 +43,20 @@ use Rattle.reasons.specs.Reasons.{worded_number, place_text}
 use Rattle.reasons.specs.Rulings.{because_text}
 use Rattle.reasons.specs.Sent.{SentCall, call_sent, session_of_frame}
 
--- what is seen of a drive: its profile, the rows in force, the sizes of its byte tables, and whether a transaction is open
+-- what a session sees of a drive: its profile, the rows, the sizes of its byte tables, and how many bytes of tokens a response
+-- to the session has room for
 pub record Seen : Type 0 where
   pub profile : Profile
   pub look : LookUp
   pub sizes : TableSizes
-  pub is_open : Bool
+  pub room : ℕ
 
-abbrev pub seen_with : Profile → LookUp → TableSizes → Bool → Seen
-seen_with profile look sizes is_open = record {
+abbrev pub seen_with : Profile → LookUp → TableSizes → ℕ → Seen
+seen_with profile look sizes room = record {
   profile = profile;
   look = look;
   sizes = sizes;
-  is_open = is_open;
+  room = room;
 }
 
 -- a session is the last one that began on an SP, and lives
@@ -132,9 +135,13 @@ unset_text size at count =
 abbrev pub rows_wanted : ℕ → ℕ → ℕ → ℕ
 rows_wanted size first last = if nat_lt last size then last + 1 - first else 0
 
--- beside so many bytes a response has twelve: four before them, the marks of its list, the end of data and a status
+-- beside the bytes that it brings a response has eight: the marks of its list, the end of data and a status. Before them stand
+-- two bytes, and of 2,048 bytes or more four (Core 2.01, section 3.2.2.3.1, medium and long atoms)
 abbrev pub beside_bytes : ℕ
-beside_bytes = 12
+beside_bytes = 8
+
+abbrev pub least_medium : ℕ
+least_medium = 16
 
 abbrev pub least_long : ℕ
 least_long = 2048
@@ -142,40 +149,50 @@ least_long = 2048
 abbrev pub least_huge : ℕ
 least_huge = 2 ^ 24
 
+abbrev pub bytes_ahead : ℕ → ℕ
+bytes_ahead count = if nat_lt count least_long then 2 else 4
+
+abbrev pub response_bytes : ℕ → ℕ
+response_bytes count = count + (bytes_ahead count + beside_bytes)
+
 abbrev pub is_long : ℕ → Bool
-is_long count = nat_le least_long count && nat_lt count least_huge
+is_long count = nat_le least_medium count && nat_lt count least_huge
 
-abbrev pub long_text : ℕ → List ℕ
-long_text count =
+-- what its host takes, where a response goes by that
+abbrev pub host_text : Profile → ℕ → List ℕ
+host_text Base room = []
+host_text Field room = []
+host_text Opal room = worded_number (codes ", and its host takes ") room
+
+abbrev pub long_text : Profile → ℕ → ℕ → List ℕ
+long_text profile room count =
     if is_long count
-    then because_text (worded_number (codes "the response would have ") (count + beside_bytes)
-    ++ codes " bytes of tokens") else []
+    then because_text (worded_number (codes "the response would have ") (response_bytes count)
+    ++ codes " bytes of tokens" ++ host_text profile room) else []
 
-abbrev pub too_long_text : ℕ → ℕ → Option ℕ → List ℕ
-too_long_text size first last = long_text (rows_wanted size first (last_row size last))
+abbrev pub too_long_text : Seen → ℕ → ℕ → Option ℕ → List ℕ
+too_long_text seen size first last =
+    long_text seen.profile seen.room (rows_wanted size first (last_row size last))
 
 -- by what was asked for, in a session of an SP
-abbrev pub set_fault_text : Bool → LookUp → Uid → SetError → List (ℕ × Tree) → List ℕ
-set_fault_text true look object fault values = []
-set_fault_text false look object faults.Overlap values =
-    overlap_text look (range_number object) values
-set_fault_text false look object faults.Beyond values =
-    beyond_text look (range_number object) values
-set_fault_text false look object _ values = []
+abbrev pub set_fault_text : LookUp → Uid → SetError → List (ℕ × Tree) → List ℕ
+set_fault_text look object faults.Overlap values = overlap_text look (range_number object) values
+set_fault_text look object faults.Beyond values = beyond_text look (range_number object) values
+set_fault_text look object _ values = []
 
 abbrev pub cells_text : Seen → Uid → Rule → List (ℕ × Tree) → List ℕ
 cells_text seen object (rules.NotSet fault) values =
-    set_fault_text seen.is_open seen.look object fault values
+    set_fault_text seen.look object fault values
 cells_text seen object _ values = []
 
 abbrev pub set_bytes_text : ℕ → Rule → ℕ → List ℕ → List ℕ
 set_bytes_text size rules.WrongValue at content = unset_text size at (length content)
 set_bytes_text size _ at content = []
 
-abbrev pub get_bytes_text : ℕ → Rule → ℕ → Option ℕ → List ℕ
-get_bytes_text size rules.OutsideTable first last = outside_text size first last
-get_bytes_text size rules.TooLong first last = too_long_text size first last
-get_bytes_text size _ first last = []
+abbrev pub get_bytes_text : Seen → ℕ → Rule → ℕ → Option ℕ → List ℕ
+get_bytes_text seen size rules.OutsideTable first last = outside_text size first last
+get_bytes_text seen size rules.TooLong first last = too_long_text seen size first last
+get_bytes_text seen size _ first last = []
 
 abbrev pub table_size : Seen → Uid → ℕ
 table_size seen object = bytes_of_table seen.sizes (byte_table_of (kind_of Locking object))
@@ -186,7 +203,7 @@ ask_text seen object rule (Some (SetCells values)) = cells_text seen object rule
 ask_text seen object rule (Some (SetBytes at content)) =
     set_bytes_text (table_size seen object) rule at content
 ask_text seen object rule (Some (GetBytes first last)) =
-    get_bytes_text (table_size seen object) rule first last
+    get_bytes_text seen (table_size seen object) rule first last
 ask_text seen object rule (Some _) = []
 
 -- Ranges and byte tables are the Locking SP's: nothing is told of a session of the Admin SP.
@@ -211,4 +228,4 @@ abbrev pub LongLaw : Type 0
 LongLaw =
     (content : List ℕ) → is_long (length content) ≡ true
     → length (item_spelling_of (reply_of (bytes content ∷ []) success))
-    ≡ length content + beside_bytes
+    ≡ response_bytes (length content)

@@ -15,3 +15,5 @@ pub mod Asked
 pub mod Untaken
 pub mod Arguments
 pub mod Details
+pub mod Holdings
+pub mod Within

@@ -115,12 +115,16 @@ reasons_text counted onset [] = []
 reasons_text counted onset (condition ∷ conditions) =
     reason_text counted condition (onset condition) ++ reasons_text counted onset conditions
 
--- all that is told of a denial
+-- all that is told of a denial, with what would lift it
+abbrev pub told_with : Counted → (Condition → Option Onset) → (ℕ → Place) → Why → List ℕ → List ℕ
+told_with counted onset place why remedy =
+    reasons_text counted onset (conditions_of why (place (range_named why))) ++ remedy ++ 10 ∷ []
+
+-- and by the rows in force
 abbrev pub told_since : Counted → (Condition → Option Onset) → (ℕ → Place) → Profile → LookUp → Why
     → List ℕ
 told_since counted onset place profile rows why =
-    reasons_text counted onset (conditions_of why (place (range_named why)))
-    ++ remedy_text profile rows why ++ 10 ∷ []
+    told_with counted onset place why (remedy_text profile rows why)
 
 -- since which act of a drive
 abbrev pub explanation_text : (Condition → Option Onset) → (ℕ → Place) → Profile → LookUp → Why

@@ -1,6 +1,7 @@
 //! What of a call a rule found at fault: the range that another one would meet, the rows of a byte table.
 
-ghost use Rattle.std.specs.Prelude.{◌≡◌, ◌++◌, option_map, IfOk, OnOk};
+ghost use Rattle.std.specs.Prelude.{◌≡◌, ◌++◌, true, codes, option_map, IfOk, OnOk};
+ghost use Rattle.reasons.specs.Reasons.{worded_number};
 ghost use Rattle.tcg_calls.specs.Asks.{ask_of};
 ghost use Rattle.tcg_tokens.specs.Tree.{tree};
 ghost use Rattle.sp_cells.specs.ByteTables.{bytes_of_table};
@@ -10,7 +11,7 @@ ghost use Rattle.methods.specs.Kinds.{kind_of, byte_table_of};
 ghost use Rattle.sp_cells.specs.declared.names.Sp.TheVariants.{Locking};
 ghost use Rattle.reasons.specs.Lives.{life_on};
 ghost use Rattle.reasons.specs.Sent.{call_seen};
-ghost use Rattle.reasons.specs.Asked.{seen_with, is_last, is_its_session, number_set, place_set, meets_place, met_from, met_by, met_text, overlap_text, beyond_text, rows_words, table_words, outside_text, unset_text, rows_wanted, is_long, long_text, cells_text, set_bytes_text, get_bytes_text, ask_text, called_text, asked_text};
+ghost use Rattle.reasons.specs.Asked.{seen_with, is_last, is_its_session, number_set, place_set, meets_place, met_from, met_by, met_text, overlap_text, beyond_text, rows_words, table_words, outside_text, unset_text, rows_wanted, bytes_ahead, response_bytes, host_text, is_long, long_text, cells_text, set_bytes_text, get_bytes_text, ask_text, called_text, asked_text};
 
 use crate::explained::{Place, SessionChronicle, SpLife, append_number, append_place};
 use crate::rulings::append_because;
@@ -23,10 +24,13 @@ use std::alloc::{AllocError, Global};
 use tcg_calls::call_shapes::{Ask, Assignments, number_in, read_ask, uid_of};
 use tcg_tokens::{Call, Value};
 
-/// How many bytes of tokens a response has beside the bytes that it brings, where these are many.
-const BESIDE: u64 = 12;
+/// How many bytes of tokens a response has beside the bytes that it brings and what stands before them.
+const BESIDE: u64 = 8;
 
-/// So many bytes have four bytes before them in a response (TCG Core 2.01, 3.2.2.3.1, long atoms).
+/// So many bytes have two bytes before them in a response (TCG Core 2.01, 3.2.2.3.1, medium atoms).
+const LEAST_MEDIUM: u64 = 16;
+
+/// So many have four (the same section, long atoms).
 const LEAST_LONG: u64 = 2048;
 
 /// So many bytes have no atom that takes them.
@@ -252,26 +256,62 @@ fn last_row(size: u64, last: Option<u64>) -> u64
     }
 }
 
-/// Whether so many bytes have four bytes before them, and no more.
+/// How many bytes stand before so many bytes in a response.
+fn bytes_ahead(count: u64) -> u64
+    ensures { result ≡ bytes_ahead count }
+{
+    if count < LEAST_LONG { 2 } else { 4 }
+}
+
+/// Whether so many bytes have two bytes or four before them.
 fn is_long(count: u64) -> bool
     ensures { result ≡ is_long count }
 {
-    LEAST_LONG <= count && count < LEAST_HUGE
+    LEAST_MEDIUM <= count && count < LEAST_HUGE
 }
 
-/// Appends how long a response with so many bytes would be.
-fn append_long(alloc: Global, text: &mut Vec<u8>, count: u64) -> Result<(), AllocError>
-    ensures { OnOk result (text.new.items ≡ text.old.items ++ long_text count) }
+/// Appends how much the host of a response takes, on a drive that goes by that.
+fn append_host(
+    alloc: Global,
+    words: &mut Vec<u8>,
+    profile: Profile,
+    room: u64,
+) -> Result<(), AllocError>
+    ensures { OnOk result (words.new.items ≡ words.old.items ++ host_text profile room) }
+{
+    match profile {
+        Profile::Base | Profile::Field => Ok(()),
+        Profile::Opal => append_number(alloc, words, b", and its host takes ", room),
+    }
+}
+
+/// How long a response with so many bytes would be.
+fn long_words(alloc: Global, profile: Profile, room: u64, count: u64) -> Result<Vec<u8>, AllocError>
+    requires { is_long count ≡ true }
+    ensures { IfOk result (λ words. words.items
+        ≡ worded_number (codes "the response would have ") (response_bytes count)
+        ++ codes " bytes of tokens" ++ host_text profile room) }
+{
+    let mut words = Vec::new(alloc);
+    let bytes = count + (bytes_ahead(count) + BESIDE);
+    append_number(alloc, &mut words, b"the response would have ", bytes)?;
+    words.extend_from_slice(b" bytes of tokens")?;
+    append_host(alloc, &mut words, profile, room)?;
+    Ok(words)
+}
+
+/// Appends how long a response with so many bytes would be, and how much its host takes.
+fn append_long(
+    alloc: Global,
+    text: &mut Vec<u8>,
+    profile: Profile,
+    room: u64,
+    count: u64,
+) -> Result<(), AllocError>
+    ensures { OnOk result (text.new.items ≡ text.old.items ++ long_text profile room count) }
 {
     if is_long(count) {
-        let mut words = Vec::new(alloc);
-        append_number(
-            alloc,
-            &mut words,
-            b"the response would have ",
-            count + BESIDE,
-        )?;
-        words.extend_from_slice(b" bytes of tokens")?;
+        let words = long_words(alloc, profile, room, count)?;
         append_because(text, &words)?;
     }
     Ok(())
@@ -282,20 +322,20 @@ fn append_cells<R: Rows>(
     alloc: Global,
     text: &mut Vec<u8>,
     rows: &R,
-    is_open: bool,
+    room: u64,
     object: Uid,
     rule: Rule,
     values: &Assignments,
 ) -> Result<(), AllocError>
     ensures { OnOk result (text.new.items ≡ text.old.items
         ++ cells_text (seen_with (R.profile_of rows.now) (R.look_up rows.now)
-        (R.sizes_of rows.now) is_open) object rule values.now) }
+        (R.sizes_of rows.now) room) object rule values.now) }
 {
     match rule {
-        Rule::NotSet(SetError::Overlap) if !is_open => {
+        Rule::NotSet(SetError::Overlap) => {
             append_overlap(alloc, text, rows, object.range_number(), values)
         }
-        Rule::NotSet(SetError::Beyond) if !is_open => {
+        Rule::NotSet(SetError::Beyond) => {
             append_beyond(alloc, text, rows, object.range_number(), values)
         }
         _ => Ok(()),
@@ -321,20 +361,26 @@ fn append_set_bytes(
 }
 
 /// Appends what a rule found at fault in a Get of bytes of a table of this size.
-fn append_get_bytes(
+fn append_get_bytes<R: Rows>(
     alloc: Global,
     text: &mut Vec<u8>,
+    rows: &R,
+    room: u64,
     size: u64,
     rule: Rule,
     first: u64,
     last: Option<u64>,
 ) -> Result<(), AllocError>
-    ensures { OnOk result (text.new.items
-        ≡ text.old.items ++ get_bytes_text size rule first last) }
+    ensures { OnOk result (text.new.items ≡ text.old.items
+        ++ get_bytes_text (seen_with (R.profile_of rows.now) (R.look_up rows.now)
+        (R.sizes_of rows.now) room) size rule first last) }
 {
     match rule {
         Rule::OutsideTable => append_outside(alloc, text, size, first, last),
-        Rule::TooLong => append_long(alloc, text, rows_wanted(size, first, last_row(size, last))),
+        Rule::TooLong => {
+            let count = rows_wanted(size, first, last_row(size, last));
+            append_long(alloc, text, rows.profile(), room, count)
+        }
         _ => Ok(()),
     }
 }
@@ -356,25 +402,26 @@ fn append_ask<R: Rows>(
     alloc: Global,
     text: &mut Vec<u8>,
     rows: &R,
-    is_open: bool,
+    room: u64,
     object: Uid,
     rule: Rule,
     ask: Option<&Ask>,
 ) -> Result<(), AllocError>
     ensures { OnOk result (text.new.items ≡ text.old.items
         ++ ask_text (seen_with (R.profile_of rows.now) (R.look_up rows.now)
-        (R.sizes_of rows.now) is_open) object rule (option_map (λ a. a.now) ask.entry)) }
+        (R.sizes_of rows.now) room) object rule (option_map (λ a. a.now) ask.entry)) }
 {
     match ask {
         Some(Ask::SetCells(values)) => {
-            append_cells(alloc, text, rows, is_open, object, rule, values)
+            append_cells(alloc, text, rows, room, object, rule, values)
         }
         Some(Ask::SetBytes { at, bytes }) => {
             let size = table_size(rows, object);
             append_set_bytes(alloc, text, size, rule, *at, bytes.as_slice())
         }
         Some(Ask::GetBytes { first, last }) => {
-            append_get_bytes(alloc, text, table_size(rows, object), rule, *first, *last)
+            let size = table_size(rows, object);
+            append_get_bytes(alloc, text, rows, room, size, rule, *first, *last)
         }
         _ => Ok(()),
     }
@@ -402,13 +449,13 @@ fn append_called<R: Rows>(
     alloc: Global,
     text: &mut Vec<u8>,
     rows: &R,
-    is_open: bool,
+    room: u64,
     rule: Rule,
     call: Option<&Call>,
 ) -> Result<(), AllocError>
     ensures { OnOk result (text.new.items ≡ text.old.items
         ++ called_text (seen_with (R.profile_of rows.now) (R.look_up rows.now)
-        (R.sizes_of rows.now) is_open) rule (option_map (λ c. call_seen c.now) call.entry)) }
+        (R.sizes_of rows.now) room) rule (option_map (λ c. call_seen c.now) call.entry)) }
 {
     let Some(call) = call else {
         return Ok(());
@@ -418,7 +465,7 @@ fn append_called<R: Rows>(
         alloc,
         text,
         rows,
-        is_open,
+        room,
         uid_of(&call.object),
         rule,
         ask.as_ref(),
@@ -430,19 +477,19 @@ pub(crate) fn append_asked<R: Rows>(
     alloc: Global,
     text: &mut Vec<u8>,
     rows: &R,
-    is_open: bool,
+    room: u64,
     sessions: &SessionChronicle,
     payload: &[u8],
     rule: Rule,
 ) -> Result<(), AllocError>
     ensures { OnOk result (text.new.items ≡ text.old.items
         ++ asked_text (seen_with (R.profile_of rows.now) (R.look_up rows.now)
-        (R.sizes_of rows.now) is_open) (life_on sessions.now) payload.now rule) }
+        (R.sizes_of rows.now) room) (life_on sessions.now) payload.now rule) }
 {
     let session = u64::from(session_named(payload));
     if is_its_session(session, &sessions.on(Sp::Locking)) {
         let call = call_sent(alloc, payload)?;
-        append_called(alloc, text, rows, is_open, rule, call.as_ref())?;
+        append_called(alloc, text, rows, room, rule, call.as_ref())?;
     }
     Ok(())
 }

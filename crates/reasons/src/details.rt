@@ -39,7 +39,12 @@ pub enum StartFault {
 }
 
 /// Appends a session by its number and its SP.
-fn append_session(alloc: Global, text: &mut Vec<u8>, sp: Sp, session: u64) -> Result<(), AllocError>
+pub(crate) fn append_session(
+    alloc: Global,
+    text: &mut Vec<u8>,
+    sp: Sp,
+    session: u64,
+) -> Result<(), AllocError>
     ensures { OnOk result (text.new.items ≡ text.old.items ++ session_words sp session) }
 {
     append_number(alloc, text, b"session ", session)?;
@@ -387,14 +392,14 @@ fn append_detail<R: Rows>(
     text: &mut Vec<u8>,
     counted: Counted,
     rows: &R,
-    is_open: bool,
+    room: u64,
     sessions: &SessionChronicle,
     payload: &[u8],
     rule: Rule,
 ) -> Result<(), AllocError>
     ensures { OnOk result (text.new.items ≡ text.old.items
         ++ detail_text counted (seen_with (R.profile_of rows.now) (R.look_up rows.now)
-        (R.sizes_of rows.now) is_open) (life_on sessions.now) payload.now rule) }
+        (R.sizes_of rows.now) room) (life_on sessions.now) payload.now rule) }
 {
     match rule {
         Rule::SpBusy => {
@@ -411,11 +416,11 @@ fn append_detail<R: Rows>(
             append_arguments(alloc, text, rows.profile(), sessions, payload)
         }
         Rule::WrongValue => {
-            append_asked(alloc, text, rows, is_open, sessions, payload, rule)?;
+            append_asked(alloc, text, rows, room, sessions, payload, rule)?;
             append_untaken(alloc, text, rows.profile(), sessions, payload)
         }
         Rule::OutsideTable | Rule::TooLong | Rule::NotSet(_) => {
-            append_asked(alloc, text, rows, is_open, sessions, payload, rule)
+            append_asked(alloc, text, rows, room, sessions, payload, rule)
         }
         Rule::ManyRandomBytes => append_lifted(text, b"Random of at most 32 bytes"),
         Rule::NoStackReset => append_lifted(text, b"the ComID, two bytes of zeros, and 00000002h"),
@@ -426,8 +431,7 @@ fn append_detail<R: Rows>(
 
 /// The lines that tell more of what was sent and a rule refused, each with its line feed: who holds the SP that is busy, what
 /// ended the session, which argument, range or row is at fault, what would be taken. Nothing where more is not known.
-/// `is_open` says whether a transaction is open on an SP: what a Set would have made of a range is told by the rows in force,
-/// which each session sees while none is.
+/// `rows` are those that the session sees which is named, and `room` is how many bytes of tokens a response to it has room for.
 ///
 /// # Errors
 ///
@@ -436,19 +440,19 @@ pub fn details_of<R: Rows>(
     alloc: Global,
     counted: Counted,
     rows: &R,
-    is_open: bool,
+    room: u64,
     sessions: &SessionChronicle,
     payload: &[u8],
     rule: Option<Rule>,
 ) -> Result<Vec<u8>, AllocError>
     ensures { IfOk result (λ text. text.items
         ≡ details_text counted (seen_with (R.profile_of rows.now) (R.look_up rows.now)
-        (R.sizes_of rows.now) is_open) (life_on sessions.now) payload.now rule) }
+        (R.sizes_of rows.now) room) (life_on sessions.now) payload.now rule) }
 {
     let mut text = Vec::new(alloc);
     if let Some(rule) = rule {
         append_detail(
-            alloc, &mut text, counted, rows, is_open, sessions, payload, rule,
+            alloc, &mut text, counted, rows, room, sessions, payload, rule,
         )?;
     }
     Ok(text)

@@ -13,4 +13,6 @@ pub use condition::{Condition, Flag, Place, conditions_of, range_named};
 pub use laws::{laws_of_onsets, laws_of_reasons};
 pub use lives::{SessionChronicle, SpLife};
 pub use onset::{Cause, Counted, Onset, Source, cause_in};
-pub(crate) use reason::{append_client, append_number, append_place, counted_word, reset_kind};
+pub(crate) use reason::{
+    append_client, append_number, append_place, append_set_cell, counted_word, reset_kind,
+};

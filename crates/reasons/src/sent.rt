@@ -37,7 +37,7 @@ pub(crate) fn call_sent(alloc: Global, payload: &[u8]) -> Result<Option<Call>, A
 }
 
 /// The number of the session that the frame of a payload names; 0 where it is none.
-pub(crate) fn session_named(payload: &[u8]) -> u32
+pub fn session_named(payload: &[u8]) -> u32
     ensures { result ≡ session_of_frame (frame_in payload.now) }
 {
     match open(payload) {

@@ -10,8 +10,14 @@ use Rattle.library_calls.specs.declared.hba_calls.regions.Region.{Region}
 use Rattle.library_calls.specs.declared.hba_calls.regions.Regions.{Regions}
 use Rattle.library_calls.proofs.hba_calls.Bytes.{Byted, Kept}
 
-pair : {A B : Type 0} {a c : A} {b d : B} → a ≡ c → b ≡ d → (a, b) ≡ (c, d)
-pair {A} {B} {a} {c} {b} {d} e f = ap (λ (x : A). (x, b)) e ∙ ap (λ (y : B). (c, y)) f
+abbrev with_last : {A B : Type 0} → B → A → A × B
+with_last b a = (a, b)
+
+abbrev with_first : {A B : Type 0} → A → B → A × B
+with_first a b = (a, b)
+
+pair : {A B : Type 0} {a c : A} {b d : B} → a ≡ c → b ≡ d → with_first a b ≡ with_first c d
+pair {A} {B} {a} {c} {b} {d} e f = ap (with_last b) e ∙ ap (with_first c) f
 
 -- Of a window its address stays, and where its bytes are.
 abbrev pub window_key : Window → ℕ × GName

@@ -43,7 +43,7 @@ pub(crate) fn turn_over(
 fn turn_regions(
     hba: &mut Hba,
     choice: usize,
-    memory: &mut Regions<'_>,
+    memory: &mut Regions<'_, '_>,
 ) -> Result<Option<Turned>, AllocError>
     ensures { (memory.new.window.base ≡ memory.old.window.base)
         × (memory.new.window.bytes.ghost_name ≡ memory.old.window.bytes.ghost_name)

@@ -26,23 +26,18 @@ fn lies_in(region: &Region, at: u64, len: usize) -> bool
 fn lies_in_any(regions: &[Region], at: u64, len: usize) -> bool
     ensures { result ≡ list_any (lies_in at len) regions.now }
 {
-    for region in regions {
-        if lies_in(region, at, len) {
-            return true;
-        }
-    }
-    false
+    regions.iter().any(|region| lies_in(region, at, len))
 }
 
 /// A window of which the bytes of these regions alone are memory. An access is answered where all its bytes lie in one of
 /// them; any other is refused.
 #[derive(Drop)]
-pub struct Regions<'a> {
+pub struct Regions<'a, 'b> {
     pub window: Window<'a>,
-    pub regions: &'a [Region],
+    pub regions: &'b [Region],
 }
 
-impl HostMemory for Regions<'_> {
+impl HostMemory for Regions<'_, '_> {
     ghost use Rattle.library_calls.specs.Regions.{RegionsDo};
 
     ghost does = { RegionsDo };

@@ -5,7 +5,7 @@ use Rattle.std.proofs.lemmas.List.{length-append}
 use Rattle.sp_cells.specs.Flat.{LookUp}
 use Rattle.tcg_tokens.specs.Spelling.{header, number_spelling, bytes_spelling, status_spelling}
 use Rattle.reasons.specs.declared.explained.condition.Place.{Place}
-use Rattle.reasons.specs.Asked.{meets_place, met_from, is_long, MetLaw, LongLaw}
+use Rattle.reasons.specs.Asked.{meets_place, met_from, bytes_ahead, MetLaw, LongLaw}
 use Rattle.std.specs.Prelude.{is_some}
 use Rattle.sp_cells.specs.declared.names.Uid.{Uid}
 use Rattle.tcg_tokens.specs.Tree.{Tree}
@@ -59,27 +59,27 @@ met look range place other e = found look range place 1 16 other e
 
 -- how long a response is
 
-not-below : (n m : ℕ) (b : Bool) → nat_le 2048 n ≡ true → nat_lt n m ≡ b → nat_le m 2048 ≡ true → b ≡ false
-not-below n m true long below few = absurd (omega (arith, leb-true 2048 n long, ltb-true n m below, leb-true m 2048 few))
-not-below n m false long below few = refl
+none-below : (n m : ℕ) (b : Bool) → nat_le m n ≡ true → nat_lt n m ≡ b → b ≡ false
+none-below n m true long below = absurd (omega (arith, leb-true m n long, ltb-true n m below))
+none-below n m false long below = refl
 
-four : (a b : Bool) (w x y p q r s : ℕ) → a ≡ false → b ≡ false
-    → length (if a then w ∷ [] else (if b then x ∷ y ∷ [] else p ∷ q ∷ r ∷ s ∷ [])) ≡ 4
-four true b w x y p q r s first second = absurd cc
-four false true w x y p q r s first second = absurd cc
-four false false w x y p q r s first second = refl
+by-length : (a b : Bool) (w x y p q r s : ℕ) → a ≡ false
+    → length (if a then w ∷ [] else (if b then x ∷ y ∷ [] else p ∷ q ∷ r ∷ s ∷ [])) ≡ (if b then 2 else 4)
+by-length true b w x y p q r s first = absurd cc
+by-length false true w x y p q r s first = refl
+by-length false false w x y p q r s first = refl
 
-header-long : (n : ℕ) → nat_le 2048 n ≡ true → length (header true n) ≡ 4
-header-long n long =
-    four (nat_lt n 16) (nat_lt n 2048) _ _ _ _ _ _ _ (not-below n 16 (nat_lt n 16) long refl refl) (not-below n 2048 (nat_lt n 2048) long refl refl)
+header-length : (n : ℕ) → nat_le 16 n ≡ true → length (header true n) ≡ bytes_ahead n
+header-length n long = by-length (nat_lt n 16) (nat_lt n 2048) _ _ _ _ _ _ _ (none-below n 16 (nat_lt n 16) long refl)
 
 pub long : LongLaw
 unfolding bytes_spelling number_spelling
 long content h =
     let n = length content in
-    let parts = and_parts (nat_le 2048 n) (nat_lt n 0x1000000) h in
-    let its : length (bytes_spelling content) ≡ 4 + n =
-    length-append (header true n) content ∙ ap (λ (k : ℕ). k + n) (header-long n parts.0) in
+    let parts = and_parts (nat_le 16 n) (nat_lt n 0x1000000) h in
+    let before = bytes_ahead n in
+    let its : length (bytes_spelling content) ≡ before + n =
+    length-append (header true n) content ∙ ap (λ (k : ℕ). k + n) (header-length n parts.0) in
     let rest : List ℕ = [] in
     let mark : List ℕ = 0xf1 ∷ [] in
     let behind : List ℕ = 0xf9 ∷ status_spelling (0 ∷ 0 ∷ 0 ∷ []) in

@@ -16,10 +16,8 @@ use Rattle.reasons.specs.declared.explained.onset.Onset.TheVariants.{AtOpening, 
 use Rattle.reasons.specs.Onsets.{Sourced, bare_acts, act_number, cause_at, onset_at, onset_after, held_since, holds_after}
 use Rattle.reasons.specs.Chronicles.{KeptOnsets, Recounts, no_onsets, onset_of_flag, onset_of_place, kept_onset, kept_place, range_onsets_after}
 use Rattle.reasons.specs.declared.explained.onset.Counted.{Counted}
-use Rattle.reasons.specs.Reasons.{line_since, reason_text, reasons_text, told_since}
-use Rattle.reasons.specs.Remedies.{remedy_text}
+use Rattle.reasons.specs.Reasons.{line_since, reason_text, reasons_text, told_with}
 use Rattle.audit.specs.declared.reason.Why.{Why}
-use Rattle.basics.specs.declared.profile.Profile.{Profile}
 use Rattle.history.specs.Opening.{Origin}
 use Rattle.history.specs.History.{log}
 use Rattle.history.specs.Readers.{in_force}
@@ -134,10 +132,10 @@ same_reasons counted k o past (c ∷ conditions) r =
     ap (λ l. l ++ reasons_text counted (kept_onset k) conditions) (same_line counted c (has_range c) (kept_onset k c) (held_since (holds_after o c) past) (λ is. r.onsets c is))
     ∙ ap (λ l. reason_text counted c (held_since (holds_after o c) past) ++ l) (same_reasons counted k o past conditions r)
 
-pub same_explanation : (counted : Counted) (k : KeptOnsets) (o : Origin) (past : List Sourced) (profile : Profile) (rows : LookUp) (why : Why) → Recounts k o past
-    → told_since counted (kept_onset k) (kept_place k) profile rows why
-    ≡ told_since counted (λ c. held_since (holds_after o c) past) (range_place (in_force o (log o (bare_acts past)))) profile rows why
-same_explanation counted k o past profile rows why r =
-    ap (λ (place : Place). reasons_text counted (kept_onset k) (conditions_of why place) ++ remedy_text profile rows why ++ 10 ∷ []) (r.places (range_named why))
-    ∙ ap (λ l. l ++ remedy_text profile rows why ++ 10 ∷ [])
+pub same_explanation : (counted : Counted) (k : KeptOnsets) (o : Origin) (past : List Sourced) (why : Why) (remedy : List ℕ) → Recounts k o past
+    → told_with counted (kept_onset k) (kept_place k) why remedy
+    ≡ told_with counted (λ c. held_since (holds_after o c) past) (range_place (in_force o (log o (bare_acts past)))) why remedy
+same_explanation counted k o past why remedy r =
+    ap (λ (place : Place). reasons_text counted (kept_onset k) (conditions_of why place) ++ remedy ++ 10 ∷ []) (r.places (range_named why))
+    ∙ ap (λ l. l ++ remedy ++ 10 ∷ [])
     (same_reasons counted k o past (conditions_of why (range_place (in_force o (log o (bare_acts past))) (range_named why))) r)

@@ -1,15 +1,18 @@
 //! Since which act each lock, and the shadow MBR, has been in force, and each range where it is.
 
 ghost use Rattle.std.specs.Prelude.{◌≡◌, ◌≤◌, ℕ, List, []};
-ghost use Rattle.std.specs.Prelude.{◌∷◌, ◌++◌, slice_index_or, IfOk, OnOk};
+ghost use Rattle.std.specs.Prelude.{◌∷◌, ◌++◌, slice_index_or, option_copied, IfOk, OnOk};
 ghost use Rattle.sp_cells.specs.declared.names.TheConstants.{RANGES};
 ghost use Rattle.reasons.specs.Chronicles.{no_onsets, range_onsets_after};
+ghost use Rattle.reasons.specs.Within.{holdings_text};
 
 use crate::explained::condition::{Condition, Place, conditions_of, range_named};
 use crate::explained::onset::{Cause, Counted, Onset, Source, onset_after};
 use crate::explained::onsets::RangeOnsets;
 use crate::explained::reason::append_line;
-use crate::remedies::remedy_bytes;
+use crate::holdings::append_holds;
+use crate::remedies::{remedy_bytes, remedy_within};
+use ace_eval::Authorities;
 use audit::Why;
 use sp_cells::{RANGES, Rows};
 use std::alloc::{AllocError, Global};
@@ -45,6 +48,23 @@ fn note_ranges<R: Rows>(ranges: &mut [RangeOnsets; RANGE_COUNT], rows: &R, now: 
     }
 }
 
+/// Appends what a session holds, where its authorities were asked for.
+fn append_holdings(
+    alloc: Global,
+    text: &mut Vec<u8>,
+    session: u32,
+    held: Option<&Authorities>,
+    why: &Why,
+) -> Result<(), AllocError>
+    ensures { OnOk result (text.new.items
+        ≡ text.old.items ++ holdings_text session (option_copied held.entry) why.now) }
+{
+    match why {
+        Why::NoEntryHolds { sp, .. } => append_holds(alloc, text, *sp, session, held),
+        _ => Ok(()),
+    }
+}
+
 impl Chronicle {
     ghost use Rattle.sp_cells.specs.Flat.{LookUp};
     ghost use Rattle.history.specs.Opening.{Origin};
@@ -54,7 +74,8 @@ impl Chronicle {
     ghost use Rattle.reasons.specs.Conditions.{HasRange, is_in_force, range_place, conditions_of};
     ghost use Rattle.reasons.specs.Onsets.{Sourced, bare_acts, cause_at, onset_after, held_since, holds_after};
     ghost use Rattle.reasons.specs.Chronicles.{KeptOnsets, kept_onset, kept_place, Recounts};
-    ghost use Rattle.reasons.specs.Reasons.{reason_text, reasons_text, told_since, explanation_text};
+    ghost use Rattle.reasons.specs.Within.{asker_with, told_within};
+    ghost use Rattle.reasons.specs.Reasons.{reason_text, reasons_text, told_with, explanation_text};
 
     /// Nothing holds yet.
     #[tactic(auto, using(crate::proofs::explained::Keeping::none_set, crate::proofs::explained::Keeping::none_placed))]
@@ -175,16 +196,16 @@ impl Chronicle {
         Ok(())
     }
 
-    fn explanation<R: Rows>(
+    /// The lines of a denial, and what would lift it, which is told in this line.
+    fn explanation(
         &self,
         alloc: Global,
         counted: Counted,
-        rows: &R,
         why: &Why,
+        remedy: &[u8],
     ) -> Result<Vec<u8>, AllocError>
         ensures { IfOk result (λ text. text.items
-            ≡ told_since counted (kept_onset self.now) (kept_place self.now) (R.profile_of rows.now)
-            (R.look_up rows.now) why.now) }
+            ≡ told_with counted (kept_onset self.now) (kept_place self.now) why.now remedy.now) }
     {
         let mut text = Vec::new(alloc);
         let place = self.place(range_named(why));
@@ -194,37 +215,64 @@ impl Chronicle {
             counted,
             conditions_of(why, place).as_slice(),
         )?;
-        let remedy = remedy_bytes(alloc, rows, why)?;
-        text.extend_from_slice(&remedy)?;
+        text.extend_from_slice(remedy)?;
         text.extend_from_slice(b"\n")?;
         Ok(text)
     }
 
-    /// The lines that say of a denial since when each condition that it rests on has been in force, and what would lift
-    /// it by the rows in force, each with its line feed: since which act of a drive, or since which step of a port.
+    /// The same, by the acts.
+    #[tactic(auto, using(crate::proofs::explained::Keeping::same_explanation))]
+    fn explanation_since(
+        &self,
+        alloc: Global,
+        counted: Counted,
+        why: &Why,
+        remedy: &[u8],
+    ) -> Result<Vec<u8>, AllocError>
+        ensures { IfOk result (λ text. (o : Origin) (past : List Sourced)
+            → Recounts self.now o past → text.items
+            ≡ told_with counted (λ c. held_since (holds_after o c) past)
+            (range_place (in_force o (log o (bare_acts past)))) why.now remedy.now) }
+    {
+        let text = self.explanation(alloc, counted, why, remedy)?;
+        Ok(text)
+    }
+
+    /// The lines that say of a denial what the session of a number holds in which a method was denied, since when each condition
+    /// that the denial rests on has been in force, and what would lift it, by the rows in force and by those that the session
+    /// sees, each with its line feed: since which act of a drive, or since which step of a port.
     ///
     /// # Errors
     ///
     /// An allocation was refused.
-    #[tactic(auto, using(crate::proofs::explained::Keeping::same_explanation))]
-    pub fn explain_by<R: Rows>(
+    pub fn explain_by<R: Rows, S: Rows>(
         &self,
         alloc: Global,
         counted: Counted,
         rows: &R,
+        seen: &S,
+        session: u32,
+        held: Option<&Authorities>,
         why: &Why,
     ) -> Result<Vec<u8>, AllocError>
         ensures { IfOk result (λ text. (o : Origin) (past : List Sourced)
             → Recounts self.now o past → text.items
-            ≡ told_since counted (λ c. held_since (holds_after o c) past)
+            ≡ told_within counted (λ c. held_since (holds_after o c) past)
             (range_place (in_force o (log o (bare_acts past))))
-            (R.profile_of rows.now) (R.look_up rows.now) why.now) }
+            (R.profile_of rows.now) (R.look_up rows.now)
+            (asker_with (S.profile_of seen.now) session (S.look_up seen.now))
+            (option_copied held.entry) why.now) }
     {
-        let text = self.explanation(alloc, counted, rows, why)?;
+        let mut text = Vec::new(alloc);
+        append_holdings(alloc, &mut text, session, held, why)?;
+        let remedy = remedy_within(alloc, rows, seen, session, why)?;
+        let told = self.explanation_since(alloc, counted, why, &remedy)?;
+        text.extend_from_slice(&told)?;
         Ok(text)
     }
 
-    /// The same, since which act of a drive.
+    /// The lines that say of a denial since which act of a drive each condition that it rests on has been in force, and what would
+    /// lift it by the rows in force, each with its line feed.
     ///
     /// # Errors
     ///
@@ -241,7 +289,8 @@ impl Chronicle {
             (range_place (in_force o (log o (bare_acts past))))
             (R.profile_of rows.now) (R.look_up rows.now) why.now) }
     {
-        let text = self.explain_by(alloc, Counted::Acts, rows, why)?;
+        let remedy = remedy_bytes(alloc, rows, why)?;
+        let text = self.explanation_since(alloc, Counted::Acts, why, &remedy)?;
         Ok(text)
     }
 }

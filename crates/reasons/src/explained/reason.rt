@@ -29,7 +29,7 @@ pub(crate) fn append_number(
 
 /// Appends that a cell is 1, by its names.
 #[tactic(auto, unfolding(crate::specs::Reasons::set_cell_text))]
-fn append_set_cell(
+pub(crate) fn append_set_cell(
     alloc: Global,
     text: &mut Vec<u8>,
     object: Uid,

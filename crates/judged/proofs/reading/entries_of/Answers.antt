@@ -1,4 +1,4 @@
-use Rattle.std.proofs.Common.{◌≡◌, ◌+◌, ◌∙◌, ap, refl, sym, fold, arith}
+use Rattle.std.proofs.Common.{◌+◌, ◌∙◌, ap, refl, sym, fold, arith}
 use Rattle.std.proofs.lemmas.Result.{IfOk-weaker}
 use Rattle.tool.specs.Scripts.{with_numbers}
 use Rattle.judged.specs.Transcripts.{all_entries, nothing_read, line_added}

@@ -10,5 +10,5 @@ pub returns : goal.returns
 returns c = λ o past acts agrees kept.
     c.in_ok-extend_from_slice.ensures.items
     ∙ ap (λ (l : List ℕ). c.in_ok-text.text.items ++ l) (c.deref.ensures.value ∙ c.in_ok-details.ensures o past acts agrees kept)
-    ∙ ap (λ (l : List ℕ). l ++ details_text c.args.counted (seen_after o acts) (life_of o past) c.args.payload.now c.args.rule)
+    ∙ ap (λ (l : List ℕ). l ++ details_text c.args.counted (seen_after o acts c.args.payload.now) (life_of o past) c.args.payload.now c.args.rule)
     (c.in_ok-text.ensures o acts agrees)
