@@ -1,5 +1,7 @@
-use Rattle.std.proofs.Common.{◌≡◌, ℕ, List, Option, Some, None, IfOk, slice_get, subst, rules}
+use Rattle.std.proofs.Common.{◌≡◌, ◌∙◌, ℕ, List, Option, Some, None, IfOk, slice_get, refl, sym, ap, subst, rules}
+use Rattle.std.proofs.lemmas.Option.{slice_get_read, slice_get_past}
 use Rattle.trusted_cmds.specs.declared.command.Command.{Command}
+use Rattle.audit.specs.declared.reason.AuditLine.{AuditLine}
 use Rattle.audit.specs.declared.reason.Why.{Why}
 use Rattle.audit.specs.declared.rules.rule.Rule.{Rule}
 use Rattle.drive.specs.State.{DriveState, Agrees}
@@ -21,7 +23,9 @@ returns-in-Some c =
     let drive : c.drive-drive.result.now ≡ c.args.port.now.drive = search rules in
     let command : c.command_of-command.result ≡ command_put c.args.ahead.now.put = search rules in
     let payload : c.deref.result.now ≡ c.args.ahead.now.brought.payload.items = search rules in
-    let denied : Some c.in-Some.line.now.why ≡ line_denial (slice_get c.args.port.now.audit c.args.ahead.now.place) = search rules in
+    let at = slice_get_read c.audit.result.now _ c.args.ahead.now.place c.in-Some.line.now refl c.in-Some.ensures.lookup.3.0 c.in-Some.ensures.lookup.1 in
+    let denied : Some c.in-Some.line.now.why ≡ line_denial (slice_get c.args.port.now.audit c.args.ahead.now.place) =
+    ap line_denial (sym at) ∙ ap (λ (lines : List AuditLine). line_denial (slice_get lines c.args.ahead.now.place)) c.audit.ensures in
     let rule : c.rule.result ≡ c.args.port.now.rule = search rules in
     subst (λ r. Told c.args.port.now.drive (command_put c.args.ahead.now.put) c.args.ahead.now.brought.payload.items (line_denial (slice_get c.args.port.now.audit c.args.ahead.now.place)) r) rule
     (subst (λ w. Told c.args.port.now.drive (command_put c.args.ahead.now.put) c.args.ahead.now.brought.payload.items w c.rule.result) denied
@@ -37,7 +41,9 @@ returns-in-None c =
     let drive : c.drive-drive.result.now ≡ c.args.port.now.drive = search rules in
     let command : c.command_of-command.result ≡ command_put c.args.ahead.now.put = search rules in
     let payload : c.deref-in-None.result.now ≡ c.args.ahead.now.brought.payload.items = search rules in
-    let denied : None ≡ line_denial (slice_get c.args.port.now.audit c.args.ahead.now.place) = search rules in
+    let past = slice_get_past c.audit.result.now c.args.ahead.now.place c.in-None.ensures.lookup.3 in
+    let denied : None ≡ line_denial (slice_get c.args.port.now.audit c.args.ahead.now.place) =
+    ap line_denial (sym past) ∙ ap (λ (lines : List AuditLine). line_denial (slice_get lines c.args.ahead.now.place)) c.audit.ensures in
     let rule : c.rule-in-None.result ≡ c.args.port.now.rule = search rules in
     subst (λ r. Told c.args.port.now.drive (command_put c.args.ahead.now.put) c.args.ahead.now.brought.payload.items (line_denial (slice_get c.args.port.now.audit c.args.ahead.now.place)) r) rule
     (subst (λ w. Told c.args.port.now.drive (command_put c.args.ahead.now.put) c.args.ahead.now.brought.payload.items w c.rule-in-None.result) denied

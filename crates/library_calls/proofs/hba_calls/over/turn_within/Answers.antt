@@ -1,4 +1,4 @@
 use Rattle.library_calls.proofs.hba_calls.over.turn_within.Goals as goal
 
 pub returns : goal.returns
-returns c = let b = c.bytes-1 in let g = c.bytes-1.given in let e = c.turn_regions-turned.ensures in ?
+returns c = let k = c.slice_known-2-1 in let m = c.memory-1 in let s = c.slice_known-1 in let n = c.new-arg-1 in let t = c.turn_regions-arg-1 in let r = c.turn_regions-turned.new.memory in ?
