@@ -21,10 +21,10 @@ abbrev pub StandsWithin : List Region → ℕ → List ℕ → Access → List �
 StandsWithin regions base old access new =
     IsAccessIf (is_in_regions regions access) (StandsSo base) old access new
 
--- The window and the regions stay where they are; the bytes answer.
+-- Bytes and regions stay where they are; the bytes answer.
 abbrev pub RegionsDo : Regions → Access → Regions → Type 0
 RegionsDo old access new =
-    (new.window.base ≡ old.window.base)
-    × (new.window.bytes.ghost_name ≡ old.window.bytes.ghost_name)
+    (new.base ≡ old.base)
+    × (new.bytes.ghost_name ≡ old.bytes.ghost_name)
     × (new.regions.now ≡ old.regions.now)
-    × StandsWithin old.regions.now old.window.base old.window.bytes.now access new.window.bytes.now
+    × StandsWithin old.regions.now old.base old.bytes.now access new.bytes.now

@@ -37,10 +37,10 @@ window_kept key b c at n answer (told, same) = same
 
 -- And of regions which they are.
 abbrev pub regions_key : Regions → (ℕ × GName) × List Region
-regions_key r = (window_key r.window, r.regions.now)
+regions_key r = ((r.base, r.bytes.ghost_name), r.regions.now)
 
 abbrev pub regions_bytes : Regions → List ℕ
-regions_bytes r = r.window.bytes.now
+regions_bytes r = r.bytes.now
 
 abbrev pub regions_stand : (ℕ × GName) × List Region → List ℕ → Access → List ℕ → Type 0
 regions_stand key = StandsWithin key.1 key.0.0

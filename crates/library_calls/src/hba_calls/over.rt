@@ -45,10 +45,10 @@ fn turn_regions(
     choice: usize,
     memory: &mut Regions<'_, '_>,
 ) -> Result<Option<Turned>, AllocError>
-    ensures { (memory.new.window.base ≡ memory.old.window.base)
-        × (memory.new.window.bytes.ghost_name ≡ memory.old.window.bytes.ghost_name)
-        × TurnsOver choice (StandsWithin memory.old.regions.now memory.old.window.base) hba.old
-        memory.old.window.bytes.now hba.new memory.new.window.bytes.now result }
+    ensures { (memory.new.base ≡ memory.old.base)
+        × (memory.new.bytes.ghost_name ≡ memory.old.bytes.ghost_name)
+        × TurnsOver choice (StandsWithin memory.old.regions.now memory.old.base) hba.old
+        memory.old.bytes.now hba.new memory.new.bytes.now result }
 {
     let turned = hba.turn(choice, memory);
     turned
@@ -65,8 +65,7 @@ pub(crate) fn turn_within(
     ensures { TurnsOver choice (StandsWithin regions.now base) hba.old bytes.old hba.new bytes.new
         result }
 {
-    let window = Window::new(base, bytes);
-    let mut memory = Regions { window, regions };
+    let mut memory = Regions::new(base, bytes, regions);
     let turned = turn_regions(hba, choice, &mut memory);
     turned
 }

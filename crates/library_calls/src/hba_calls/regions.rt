@@ -1,10 +1,12 @@
-//! A window of the host's memory of which some regions alone are memory.
+//! Bytes of the host's memory of which some regions alone are memory.
 
 ghost use Rattle.std.specs.Prelude.{◌≡◌, ◌≤◌, ◌+◌, length};
 ghost use Rattle.std.specs.List.{list_any};
+ghost use Rattle.host_memory.specs.Access.{read_answer};
+ghost use Rattle.host_memory.specs.Window.{is_held, bytes_held_at, bytes_laid};
 ghost use Rattle.library_calls.specs.Regions.{lies_in};
 
-use hba::{HostMemory, Window};
+use hba::HostMemory;
 
 /// A region of the host's memory: the address of its first byte, and how many bytes it has.
 #[repr(C)]
@@ -29,12 +31,85 @@ fn lies_in_any(regions: &[Region], at: u64, len: usize) -> bool
     regions.iter().any(|region| lies_in(region, at, len))
 }
 
-/// A window of which the bytes of these regions alone are memory. An access is answered where all its bytes lie in one of
-/// them; any other is refused.
+/// Whether so many bytes at an address stand among these, from a base address on.
+fn is_held(base: u32, bytes: &[u8], at: u64, len: usize) -> bool
+    requires { at + len ≤ 0x100000000 }
+    ensures { result ≡ is_held base bytes.now at len }
+{
+    let end = u64::from(base) + bytes.len() as u64;
+    u64::from(base) <= at && at + len as u64 <= end
+}
+
+/// Fills with the bytes at an address, where they stand among these.
+fn copy_from(base: u32, bytes: &[u8], at: u64, into: &mut [u8]) -> bool
+    requires { at + length into.old ≤ 0x100000000 }
+    ensures { read_answer result into.new ≡ bytes_held_at base bytes.now at (length into.old) }
+{
+    if !is_held(base, bytes, at, into.len()) {
+        return false;
+    }
+    let place = (at - u64::from(base)) as usize;
+    into.copy_from_slice(&bytes[place..place + into.len()]);
+    true
+}
+
+/// Writes bytes at an address, where they stand among these.
+fn copy_to(base: u32, bytes: &mut [u8], at: u64, others: &[u8]) -> bool
+    requires { at + length others.now ≤ 0x100000000 }
+    ensures done { result ≡ is_held base bytes.old at (length others.now) }
+    ensures bytes { bytes.new ≡ bytes_laid base bytes.old at others.now }
+{
+    if !is_held(base, bytes, at, others.len()) {
+        return false;
+    }
+    let place = (at - u64::from(base)) as usize;
+    bytes[place..place + others.len()].copy_from_slice(others);
+    true
+}
+
+/// Bytes at a base address, of which those in these regions alone are memory. An access is answered where all its bytes lie in
+/// one of them; any other is refused.
 #[derive(Drop)]
 pub struct Regions<'a, 'b> {
-    pub window: Window<'a>,
+    pub base: u32,
+    pub bytes: &'a mut [u8],
     pub regions: &'b [Region],
+}
+
+impl<'a, 'b> Regions<'a, 'b> {
+    ghost use Rattle.std.specs.Prelude.{◌≡◌};
+
+    /// Bytes that stand at a base address.
+    pub fn new(base: u32, bytes: &'a mut [u8], regions: &'b [Region]) -> Regions<'a, 'b>
+        ensures same_reference { result.bytes.ghost_name ≡ bytes.entry.ghost_name }
+        ensures base { result.base ≡ base }
+        ensures bytes { result.bytes.now ≡ bytes.old }
+        ensures regions { result.regions.now ≡ regions.now }
+    {
+        Regions {
+            base,
+            bytes,
+            regions,
+        }
+    }
+}
+
+impl Regions<'_, '_> {
+    ghost use Rattle.std.specs.Prelude.{◌≡◌, ◌≤◌, ◌+◌, length};
+    ghost use Rattle.host_memory.specs.Access.{Asked, read_answer};
+    ghost use Rattle.library_calls.specs.Regions.{StandsWithin};
+
+    /// Fills with the bytes at an address, where they are memory.
+    fn copy(&self, at: u64, into: &mut [u8]) -> bool
+        requires { at + length into.old ≤ 0x100000000 }
+        ensures { StandsWithin self.now.regions.now self.now.base self.now.bytes.now
+            (Asked at (length into.old) (read_answer result into.new)) self.now.bytes.now }
+    {
+        if !lies_in_any(self.regions, at, into.len()) {
+            return false;
+        }
+        copy_from(self.base, self.bytes, at, into)
+    }
 }
 
 impl HostMemory for Regions<'_, '_> {
@@ -43,10 +118,10 @@ impl HostMemory for Regions<'_, '_> {
     ghost does = { RegionsDo };
 
     fn read(&mut self, at: u64, into: &mut [u8]) -> bool {
-        lies_in_any(self.regions, at, into.len()) && self.window.read(at, into)
+        self.copy(at, into)
     }
 
     fn write(&mut self, at: u64, bytes: &[u8]) -> bool {
-        lies_in_any(self.regions, at, bytes.len()) && self.window.write(at, bytes)
+        lies_in_any(self.regions, at, bytes.len()) && copy_to(self.base, self.bytes, at, bytes)
     }
 }
