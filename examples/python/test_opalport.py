@@ -393,14 +393,19 @@ class OnAController(unittest.TestCase):
         self.assertEqual(self.hba.turn(self.memory, self.BASE).work, Work.NONE)
 
     def test_what_lies_in_no_region_is_no_memory(self):
-        self.start()
-        whole = [(self.BASE, 0x4000)]
+        """A block of 512 bytes at 103000h: within one region, past its end by a byte, before it by one, in two that touch."""
+        front = (self.BASE, 0x3000)
         for regions, went in (
-            (whole, Went.SERVED),
-            ([(self.BASE, 0x3000), (self.BASE + 0x3000, 512)], Went.SERVED),
-            ([(self.BASE, 0x3000), (self.BASE + 0x3000, 511)], Went.NO_DATA),
+            ([(self.BASE, 0x4000)], Went.SERVED),
+            ([front, (self.BASE + 0x3000, 512)], Went.SERVED),
+            ([front, (self.BASE + 0x3000, 511)], Went.NO_DATA),
+            ([front, (self.BASE + 0x3001, 0xfff)], Went.NO_DATA),
+            ([(self.BASE, 0x3100), (self.BASE + 0x3100, 0xf00)], Went.NO_DATA),
+            ([], Went.NO_LIST),
         ):
             with self.subTest(regions=regions):
+                self.hba.power_cycle()
+                self.start()
                 self.memory[0x3000:0x3200] = b"\xff" * SECTOR
                 self.put(0, 5 | 1 << 16, 0, self.BASE + 0x2000)
                 self.memory[0x2000:0x2014] = read(0)

@@ -63,17 +63,21 @@ fn a_controller_tells_what_is_not_in_the_memory() {
 #[test]
 fn what_lies_in_no_region_is_no_memory() {
     let (mut hba, mut memory) = (hba(), vec![0xff; 0x4000]);
-    start(&mut hba, &mut memory);
-    let begin = u64::from(BASE);
-    for (length, went) in [(512, Went::Served), (511, Went::NoData)] {
-        let regions = [Region { begin, length: 0x3000 }, Region { begin: begin + 0x3000, length }];
+    let base = u64::from(BASE);
+    let front = Region { begin: base, length: 0x3000 };
+    for (begin, length, went) in [(0x3000, 512, Went::Served), (0x3000, 511, Went::NoData), (0x3001, 512, Went::NoData)] {
+        hba.power_cycle().unwrap();
+        start(&mut hba, &mut memory);
         issue(&mut hba, &mut memory, 0);
         memory[0x3000..0x3200].fill(0xff);
+        let regions = [front, Region { begin: base + begin, length }];
         assert_eq!(hba.turn_within(0, BASE, &mut memory, &regions).unwrap().went, went);
         assert_eq!(memory[0x3000] == 0, went == Went::Served);
     }
-    let worked = hba.turn_within(0, BASE, &mut memory, &[]).unwrap();
-    assert_eq!(worked.work, Work::None);
+    hba.power_cycle().unwrap();
+    start(&mut hba, &mut memory);
+    issue(&mut hba, &mut memory, 0);
+    assert_eq!(hba.turn_within(0, BASE, &mut memory, &[]).unwrap().went, Went::NoList);
 }
 
 #[test]
