@@ -1,5 +1,5 @@
--- A window of the host's memory of which some regions alone are memory: behind the others stands nothing (AHCI 1.3.1,
--- 6.1.2: what the bus does not answer).
+-- Bytes of the host's memory of which some regions alone are memory: an access of anything else is an error of the system's
+-- memory (AHCI 1.3.1, 6.1.1).
 use Rattle.std.specs.Prelude.{◌≡◌, ℕ, ◌+◌, ◌&&◌, nat_le, Bool, List, length}
 use Rattle.std.specs.List.{list_any}
 use Rattle.host_memory.specs.Access.{Access, Asked, Laid, IsAccessIf}

@@ -1,5 +1,5 @@
 -- A window, and regions of one, as memories whose bytes answer.
-use Rattle.std.proofs.Common.{◌≡◌, ℕ, Bool, true, false, List, refl, ap, ◌∙◌, Option}
+use Rattle.std.proofs.Common.{◌≡◌, ℕ, Bool, true, false, List, ap, ◌∙◌}
 use Rattle.std.specs.Borrow.{GName}
 use Rattle.host_memory.specs.Access.{Access, Asked, IsAccessIf}
 use Rattle.host_memory.specs.Window.{StandsSo}
