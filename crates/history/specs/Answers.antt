@@ -11,7 +11,8 @@ use Rattle.fis.specs.declared.any.Fis.TheVariants as fises
 use Rattle.locking.specs.declared.range.Op.TheVariants.{Read}
 use Rattle.shadow_mbr.specs.Stored.{sector_size, sectors_from}
 use Rattle.trusted_cmds.specs.declared.command.Command.{Command}
-use Rattle.trusted_cmds.specs.declared.command.Command.TheVariants.{ReadQueued, WriteQueued, ReadDma, Send, Receive, Identify, ReadLog10, ReadLog}
+use Rattle.trusted_cmds.specs.declared.command.Command.TheVariants.{ReadQueued, WriteQueued, ReadDma, Send, Receive, Identify, ReadLog10, ReadLog, ReadPio, WritePio, Control}
+use Rattle.trusted_cmds.specs.declared.control.Control.TheVariants.{CheckPowerMode, Diagnose}
 use Rattle.trusted_cmds.specs.declared.command.CommandError.{CommandError}
 use Rattle.trusted_cmds.specs.Profiles.{payload_length_in}
 use Rattle.locking.specs.declared.ranges.Verdict.{Verdict}
@@ -31,6 +32,7 @@ read_by f lba count (Denied why) = []
 -- The data block of an unqueued command that is served, by what its items give.
 abbrev pub block_of : Items → Facts → Command → List ℕ
 block_of items f (ReadDma lba count) = read_by f lba count (verdict_on f Read lba count)
+block_of items f (ReadPio lba count) = read_by f lba count (verdict_on f Read lba count)
 block_of items f (ReadLog10 dma) = error_log f.failure
 block_of items f (Receive protocol com_id blocks dma) =
     items.gives f (Receive protocol com_id blocks dma)
@@ -109,6 +111,45 @@ answer_fis interrupt status error =
       count = 0;
     })
 
+-- The signature of an ATA device (ACS-3, device signatures), beside the result of its own tests, which is always that it passed
+-- (ACS-3, EXECUTE DEVICE DIAGNOSTIC, diagnostic codes).
+abbrev pub signature_lba : ℕ
+signature_lba = 1
+
+abbrev pub signature_count : ℕ
+signature_count = 1
+
+abbrev pub passed : ℕ
+passed = 1
+
+abbrev pub diagnosed_fis : Fis
+diagnosed_fis =
+    fises.D2h (record {
+      interrupt = true;
+      port = 0;
+      status = ready;
+      error = passed;
+      lba = signature_lba;
+      device = 0;
+      count = signature_count;
+    })
+
+-- A device that is active, or idle (ACS-3, CHECK POWER MODE, Normal Outputs).
+abbrev pub active_or_idle : ℕ
+active_or_idle = 0xff
+
+abbrev pub power_fis : Fis
+power_fis =
+    fises.D2h (record {
+      interrupt = true;
+      port = 0;
+      status = ready;
+      error = 0;
+      lba = 0;
+      device = 0;
+      count = active_or_idle;
+    })
+
 -- A PIO Setup FIS, one for all blocks.
 abbrev pub pio_fis : Bool → ℕ → Fis
 pio_fis to_host end_status =
@@ -125,14 +166,18 @@ pio_fis to_host end_status =
       transfer_count = sector_size;
     })
 
--- The PIO forms: a send has one PIO Setup FIS in front; IDENTIFY, a receive and a log read have it
--- alone.
+-- The PIO forms: a send and a write have one PIO Setup FIS in front; IDENTIFY, a receive, a log read and a read have it
+-- alone. Some commands tell by the fields of their FIS.
 abbrev pub served_fises : Command → List Fis
 served_fises (Send protocol com_id blocks false) = pio_fis false busy ∷ answer_fis true ready 0 ∷ []
 served_fises (Receive protocol com_id blocks false) = pio_fis true ready ∷ []
 served_fises (ReadLog10 false) = pio_fis true ready ∷ []
 served_fises (ReadLog pages false) = pio_fis true ready ∷ []
 served_fises Identify = pio_fis true ready ∷ []
+served_fises (ReadPio lba count) = pio_fis true ready ∷ []
+served_fises (WritePio lba count) = pio_fis false busy ∷ answer_fis true ready 0 ∷ []
+served_fises (Control Diagnose) = diagnosed_fis ∷ []
+served_fises (Control CheckPowerMode) = power_fis ∷ []
 served_fises _ = answer_fis true ready 0 ∷ []
 
 abbrev pub fises_read : Result (Command × Option ℕ) CommandError → List Fis

@@ -21,7 +21,7 @@ use Rattle.audit.specs.declared.reason.Why.{Why}
 use Rattle.audit.specs.declared.rules.rule.Rule.{Rule}
 use Rattle.audit.specs.declared.rules.rule.Rule.TheVariants.{NoCommand, Unreadable, QueueFailed, Mixed, TagHeld, BeyondDrive, Protocol, ComId}
 use Rattle.trusted_cmds.specs.declared.command.Command.{Command}
-use Rattle.trusted_cmds.specs.declared.command.Command.TheVariants.{ReadQueued, WriteQueued, ReadDma, WriteDma, Send, Receive, Identify, ReadLog10, Flush, SetFeatures, ReadLog}
+use Rattle.trusted_cmds.specs.declared.command.Command.TheVariants.{ReadQueued, WriteQueued, ReadDma, WriteDma, Send, Receive, Identify, ReadLog10, Flush, SetFeatures, ReadLog, ReadPio, WritePio, Verify, Control}
 use Rattle.trusted_cmds.specs.declared.command.CommandError.{CommandError}
 use Rattle.device_data.specs.Discovery.{first_com_id, com_ids}
 use Rattle.device_data.specs.ErrorLog.{failure_by}
@@ -179,7 +179,8 @@ receive f protocol com_id blocks =
     if asks_stack f.config.profile protocol com_id blocks
     then did (InSession (StackTold com_id) Silent) else receive_other f protocol com_id blocks
 
--- Commands, by what an item does.
+-- Commands, by what an item does. A transfer by PIO is judged whole, as one by DMA, and a verification as the read that it is
+-- (SIIS 1.05, commands of a locked range; ACS-3, READ VERIFY SECTOR(S)).
 
 abbrev pub unqueued_of : Items → Facts → List ℕ → Command → Event
 unqueued_of items f payload (ReadDma lba count) = unqueued_transfer f Nothing Read lba count
@@ -194,6 +195,11 @@ unqueued_of items f payload (ReadLog10 dma) = did Nothing
 unqueued_of items f payload Flush = did Nothing
 unqueued_of items f payload (SetFeatures feature) = did (Chose feature)
 unqueued_of items f payload (ReadLog pages dma) = did Nothing
+unqueued_of items f payload (ReadPio lba count) = unqueued_transfer f Nothing Read lba count
+unqueued_of items f payload (WritePio lba count) =
+    unqueued_transfer f (Wrote lba payload) Write lba count
+unqueued_of items f payload (Verify lba count) = unqueued_transfer f Nothing Read lba count
+unqueued_of items f payload (Control control) = did Nothing
 unqueued_of items f payload (ReadQueued lba count) = refuses NoCommand
 unqueued_of items f payload (WriteQueued lba count) = refuses NoCommand
 

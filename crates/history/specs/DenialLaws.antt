@@ -12,7 +12,7 @@ use Rattle.tcg_tokens.specs.Reading.{reading as message_in}
 use Rattle.tcg_tokens.specs.Tree.{Trees}
 use Rattle.compacket.specs.Frames.{Frame}
 use Rattle.trusted_cmds.specs.declared.command.Command.{Command}
-use Rattle.trusted_cmds.specs.declared.command.Command.TheVariants.{ReadQueued, WriteQueued, ReadDma, WriteDma}
+use Rattle.trusted_cmds.specs.declared.command.Command.TheVariants.{ReadQueued, WriteQueued, ReadDma, WriteDma, ReadPio, WritePio, Verify}
 use Rattle.locking.specs.declared.ranges.Verdict.TheVariants.{Denied}
 use Rattle.sessions.specs.Attempts.{attempt_failure as failure_of}
 use Rattle.tcg_calls.specs.Asks.{uid_of}
@@ -30,12 +30,16 @@ use Rattle.history.specs.Tcg.{is_manager, is_method_of_manager, start_verdict, j
 use Rattle.history.specs.History.{Act, event_by}
 use Rattle.history.specs.MethodLaws.{IsLookedAt, IsSent, IsCall}
 
--- A transfer that a command asks for; a queued one has a tag.
-pub data Moves : Command → Option ℕ → Op → ℕ → ℕ → Type 0 where
-  read_queued : {lba count tag : ℕ} → Moves (ReadQueued lba count) (Some tag) Read lba count
-  write_queued : {lba count tag : ℕ} → Moves (WriteQueued lba count) (Some tag) Write lba count
-  read_dma : {lba count : ℕ} → Moves (ReadDma lba count) None Read lba count
-  write_dma : {lba count : ℕ} → Moves (WriteDma lba count) None Write lba count
+-- The commands by which data are reached, and which: so many sectors of media, or of the shadow, from one on, to be read or
+-- written. A queued command has a tag. No other command reaches data (`UnreachedLaw`).
+pub data Reaches : Command → Option ℕ → Op → ℕ → ℕ → Type 0 where
+  read_queued : {lba count tag : ℕ} → Reaches (ReadQueued lba count) (Some tag) Read lba count
+  write_queued : {lba count tag : ℕ} → Reaches (WriteQueued lba count) (Some tag) Write lba count
+  read_dma : {lba count : ℕ} → Reaches (ReadDma lba count) None Read lba count
+  write_dma : {lba count : ℕ} → Reaches (WriteDma lba count) None Write lba count
+  read_pio : {lba count : ℕ} → Reaches (ReadPio lba count) None Read lba count
+  write_pio : {lba count : ℕ} → Reaches (WritePio lba count) None Write lba count
+  verify : {lba count : ℕ} → Reaches (Verify lba count) None Read lba count
 
 -- The tag of a queued command is free.
 abbrev pub IsFree : Facts → Option ℕ → Type 0
@@ -50,7 +54,7 @@ pub record TransferDenied (f : Facts) (act : Act) (why : Why) : Type 0 where
   pub op : Op
   pub lba : ℕ
   pub count : ℕ
-  pub moves : Moves command tag op lba count
+  pub moves : Reaches command tag op lba count
   pub free : IsFree f tag
   pub on_drive : on_drive f lba count ≡ true
   pub verdict : verdict_on f op lba count ≡ Denied why

@@ -9,7 +9,6 @@ use Rattle.audit.specs.declared.reason.Why.{Why}
 use Rattle.fis.specs.Tags.{slot_count}
 use Rattle.history.specs.Opening.{Origin}
 use Rattle.trusted_cmds.specs.declared.command.Command.{Command}
-use Rattle.trusted_cmds.specs.declared.command.Command.TheVariants.{WriteDma}
 use Rattle.locking.specs.declared.ranges.Verdict.{Verdict}
 use Rattle.locking.specs.declared.ranges.Verdict.TheVariants.{Serve, Shadow, Denied}
 use Rattle.history.specs.Events.{HeldCommand, Wrote}
@@ -20,7 +19,7 @@ use Rattle.history.specs.Items.{Items}
 use Rattle.history.specs.Quiet.{IsQuiet, ReadsTags}
 use Rattle.history.specs.History.{Act, Accept, event_in, log_of}
 use Rattle.history.specs.Looked.{IsLookedAtBy}
-use Rattle.history.specs.DenialLaws.{Moves, IsFree}
+use Rattle.history.specs.DenialLaws.{Reaches, IsFree}
 
 abbrev pub is_denied : Verdict → Bool
 is_denied Serve = false
@@ -77,7 +76,7 @@ pub record WasAccepted (items : Items) (o : Origin) (acts : List Act) (tag : ℕ
   pub op : Op
   pub lba : ℕ
   pub count : ℕ
-  pub moves : Moves h.command (Some tag) op lba count
+  pub moves : Reaches h.command (Some tag) op lba count
   pub on_drive : on_drive (facts o (log_of items o before)) lba count ≡ true
   pub verdict : verdict_on (facts o (log_of items o before)) op lba count ≡ h.verdict
   pub permitted : IsPermitted (ranges_in_force (facts o (log_of items o before))) op lba count
@@ -99,7 +98,7 @@ pub record ServesAct (items : Items) (f : Facts) (act : Act) (op : Op)
 abbrev pub ServiceLaw : Type 0
 ServiceLaw =
     (items : Items) (f : Facts) (act : Act) (command : Command) (tag : Option ℕ) (op : Op)
-    (lba count : ℕ) → IsLookedAtBy items f act command tag → Moves command tag op lba count
+    (lba count : ℕ) → IsLookedAtBy items f act command tag → Reaches command tag op lba count
     → IsFree f tag → on_drive f lba count ≡ true
     → ServesAct items f act op lba count
 
@@ -112,7 +111,9 @@ TagLaw =
 -- An unqueued write that moved its data: of sectors on the drive, and permitted.
 pub record Writes (items : Items) (f : Facts) (act : Act) (lba : ℕ) (bytes : List ℕ) : Type 0 where
   pub count : ℕ
-  pub looked : IsLookedAtBy items f act (WriteDma lba count) None
+  pub command : Command
+  pub writes : Reaches command None Write lba count
+  pub looked : IsLookedAtBy items f act command None
   pub payload : bytes ≡ looked.payload
   pub on_drive : on_drive f lba count ≡ true
   pub permitted : IsPermitted (ranges_in_force f) Write lba count

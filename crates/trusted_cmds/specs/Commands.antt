@@ -2,7 +2,9 @@
 use Rattle.std.specs.Prelude.{◌≡◌, ℕ, ◌+◌, ◌*◌, ◌/◌, ◌%◌, ◌<◌, ◌≤◌, ◌==◌, Bool, true, false, not, ◌&&◌, ◌||◌, nat_lt, Option, Some, None, IfSome, Result, Ok, Err, if◌then◌else◌}
 use Rattle.fis.specs.declared.h2d.RegH2d.{RegH2d}
 use Rattle.trusted_cmds.specs.declared.command.Command.{Command}
-use Rattle.trusted_cmds.specs.declared.command.Command.TheVariants.{ReadQueued, WriteQueued, ReadDma, WriteDma, Send, Receive, Identify, ReadLog10, Flush, SetFeatures, ReadLog}
+use Rattle.trusted_cmds.specs.declared.command.Command.TheVariants.{ReadQueued, WriteQueued, ReadDma, WriteDma, Send, Receive, Identify, ReadLog10, Flush, SetFeatures, ReadLog, ReadPio, WritePio, Verify, Control}
+use Rattle.trusted_cmds.specs.declared.control.Control as controls
+use Rattle.trusted_cmds.specs.declared.control.Control.TheVariants.{SetMultiple, Idle, CheckPowerMode, Diagnose}
 use Rattle.trusted_cmds.specs.declared.feature.Feature.{Feature}
 use Rattle.trusted_cmds.specs.declared.feature.Feature.TheVariants.{WriteCache, ReadLookAhead, TransferMode}
 use Rattle.trusted_cmds.specs.declared.log_pages.LogPages.{LogPages}
@@ -61,6 +63,14 @@ most_sectors = 65536
 -- A count field of 0 stands for the most sectors.
 abbrev pub sectors : ℕ → ℕ
 sectors field = if field == 0 then most_sectors else field
+
+-- A transfer of 28 bits has LBA 23:0 in its field and LBA 27:24 in Device 3:0, and its sectors in Count 7:0, of which 0
+-- stands for 256.
+abbrev pub short_lba : RegH2d → ℕ
+short_lba h = h.lba % 0x1000000 + 0x1000000 * (h.device % 16)
+
+abbrev pub short_sectors : RegH2d → ℕ
+short_sectors h = if h.count % 256 == 0 then 256 else h.count % 256
 
 -- The field Device of a command that wants bit 6 set, and whether it is.
 abbrev pub lba_device : ℕ
@@ -240,6 +250,9 @@ count_of (ReadQueued lba count) = Some count
 count_of (WriteQueued lba count) = Some count
 count_of (ReadDma lba count) = Some count
 count_of (WriteDma lba count) = Some count
+count_of (ReadPio lba count) = Some count
+count_of (WritePio lba count) = Some count
+count_of (Verify lba count) = Some count
 count_of _ = None
 
 abbrev pub lba_of : Command → Option ℕ
@@ -247,6 +260,9 @@ lba_of (ReadQueued lba count) = Some lba
 lba_of (WriteQueued lba count) = Some lba
 lba_of (ReadDma lba count) = Some lba
 lba_of (WriteDma lba count) = Some lba
+lba_of (ReadPio lba count) = Some lba
+lba_of (WritePio lba count) = Some lba
+lba_of (Verify lba count) = Some lba
 lba_of _ = None
 
 -- One sector at least, and not more than a count field can ask for.
@@ -331,6 +347,45 @@ mode_asked _ = 0
 abbrev pub feature_fis : Feature → RegH2d
 feature_fis feature = fis_with set_features (subcommand feature) 0 0 (mode_asked feature)
 
+-- The codes of the commands that the opal profile has beside, as they are written: transfers at addresses of 48 bits
+-- (ACS-3, READ SECTOR(S) EXT, WRITE SECTOR(S) EXT, READ VERIFY SECTOR(S) EXT).
+abbrev pub read_sectors_ext : ℕ
+read_sectors_ext = 0x24
+
+abbrev pub write_sectors_ext : ℕ
+write_sectors_ext = 0x34
+
+abbrev pub verify_sectors_ext : ℕ
+verify_sectors_ext = 0x42
+
+-- SET MULTIPLE MODE, IDLE IMMEDIATE, CHECK POWER MODE, EXECUTE DEVICE DIAGNOSTIC.
+abbrev pub set_multiple : ℕ
+set_multiple = 0xc6
+
+abbrev pub idle_immediate : ℕ
+idle_immediate = 0xe1
+
+abbrev pub check_power_mode : ℕ
+check_power_mode = 0xe5
+
+abbrev pub execute_diagnostic : ℕ
+execute_diagnostic = 0x90
+
+-- How many sectors a block has whose data go by PIO (this drive: IDENTIFY DEVICE word 47).
+abbrev pub sectors_in_block : ℕ
+sectors_in_block = 1
+
+abbrev pub control_code : controls.Control → ℕ
+control_code SetMultiple = set_multiple
+control_code Idle = idle_immediate
+control_code CheckPowerMode = check_power_mode
+control_code Diagnose = execute_diagnostic
+
+-- SET MULTIPLE MODE has its sectors in Count.
+abbrev pub control_count : controls.Control → ℕ
+control_count SetMultiple = sectors_in_block
+control_count _ = 0
+
 -- The writer's spelling of a command under a tag.
 abbrev pub fis_of : Command → ℕ → RegH2d
 fis_of (ReadQueued lba count) tag = queued_fis read_queued lba count tag
@@ -346,6 +401,10 @@ fis_of (ReadLog10 dma) tag = log_read_fis error_log_address 1 dma
 fis_of Flush tag = fis_with flush_cache 0 0 0 0
 fis_of (SetFeatures feature) tag = feature_fis feature
 fis_of (ReadLog pages dma) tag = log_read_fis (log_place pages) (pages_asked pages) dma
+fis_of (ReadPio lba count) tag = unqueued_fis read_sectors_ext lba count
+fis_of (WritePio lba count) tag = unqueued_fis write_sectors_ext lba count
+fis_of (Verify lba count) tag = unqueued_fis verify_sectors_ext lba count
+fis_of (Control control) tag = fis_with (control_code control) 0 0 0 (control_count control)
 
 -- The tag that a command is read back with: only a queued one has it.
 abbrev pub tag_with : Command → ℕ → Option ℕ

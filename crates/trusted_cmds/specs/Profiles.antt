@@ -11,7 +11,8 @@ use Rattle.trusted_cmds.specs.declared.feature.Feature.{Feature}
 use Rattle.trusted_cmds.specs.declared.feature.Feature.TheVariants.{WriteCache, ReadLookAhead, TransferMode}
 use Rattle.trusted_cmds.specs.declared.log_pages.LogPages.{LogPages}
 use Rattle.trusted_cmds.specs.declared.log_pages.LogPages.TheVariants.{Directory, IdentifyData}
-use Rattle.trusted_cmds.specs.Commands.{sector_size, has_lba_bit, is_log_read, read_log, read_log_dma, set_features, identify_data_address, enable_write_cache, disable_write_cache, enable_look_ahead, disable_look_ahead, set_transfer_mode, by_dma, Carries, IsPlain, payload_length, reading}
+use Rattle.trusted_cmds.specs.Commands.{sector_size, has_lba_bit, is_log_read, read_log, read_log_dma, set_features, identify_data_address, enable_write_cache, disable_write_cache, enable_look_ahead, disable_look_ahead, set_transfer_mode, by_dma, short_lba, short_sectors, Carries, IsPlain, payload_length, reading}
+use Rattle.trusted_cmds.specs.General.{CarriesMore, more, is_general, writes_more, sectors_of}
 
 -- The codes of the spellings (ACS-3, "Command codes").
 abbrev pub short_read_dma : ℕ
@@ -25,14 +26,6 @@ short_flush_cache = 0xe7
 
 abbrev pub is_short_transfer : ℕ → Bool
 is_short_transfer code = code == short_read_dma || code == short_write_dma
-
--- A transfer of 28 bits has LBA 23:0 in its field and LBA 27:24 in Device 3:0, and its sectors in Count 7:0, of which 0
--- stands for 256.
-abbrev pub short_lba : RegH2d → ℕ
-short_lba h = h.lba % 0x1000000 + 0x1000000 * (h.device % 16)
-
-abbrev pub short_sectors : RegH2d → ℕ
-short_sectors h = if h.count % 256 == 0 then 256 else h.count % 256
 
 -- What a transfer of 28 bits has in its fields.
 pub record IsShort (h : RegH2d) (code first sectors_asked : ℕ) : Type 0 where
@@ -110,7 +103,8 @@ CarriesBeside h _ _ = ⊥
 abbrev pub CarriesIn : Profile → RegH2d → Command → Option ℕ → Type 0
 CarriesIn Base h command tag = Carries h command tag
 CarriesIn Field h command tag = Carries h command tag ⊎ CarriesBeside h command tag
-CarriesIn Opal h command tag = Carries h command tag ⊎ CarriesBeside h command tag
+CarriesIn Opal h command tag =
+    (Carries h command tag ⊎ CarriesBeside h command tag) ⊎ CarriesMore h command tag
 
 -- The pages that a read of a log names.
 abbrev pub pages_named : RegH2d → Option LogPages
@@ -162,7 +156,7 @@ read_or (Err error) (Some command) = Ok (command, None)
 abbrev pub reading_in : Profile → RegH2d → Result (Command × Option ℕ) CommandError
 reading_in Base h = reading h
 reading_in Field h = read_or (reading h) (beside h)
-reading_in Opal h = read_or (reading h) (beside h)
+reading_in Opal h = read_or (read_or (reading h) (beside h)) (more h)
 
 -- What the field profile has: the features and the pages that there are.
 abbrev pub field_offers : Command → Bool
@@ -171,16 +165,16 @@ field_offers (ReadLog (IdentifyData first count) dma) = are_pages first count
 field_offers _ = true
 
 -- The commands that a profile has: SET FEATURES and the pages of the device's logs belong to the field profile, and so to
--- the opal profile.
+-- the opal profile, which has the commands of every ATA device too.
 abbrev pub is_offered : Profile → Command → Bool
-is_offered Field command = field_offers command
+is_offered Field command = field_offers command && not (is_general command)
 is_offered Opal command = field_offers command
 is_offered Base (SetFeatures feature) = false
 is_offered Base (ReadLog pages dma) = false
-is_offered Base _ = true
+is_offered Base command = not (is_general command)
 
 -- How many bytes come with a command that is not queued: under the field profile WRITE DMA of 28 bits brings its
--- sectors too.
+-- sectors too, and under the opal profile each of its writes.
 abbrev pub field_payload_length : RegH2d → ℕ
 field_payload_length h =
     if h.command == short_write_dma then sector_size * short_sectors h else payload_length h
@@ -188,4 +182,5 @@ field_payload_length h =
 abbrev pub payload_length_in : Profile → RegH2d → ℕ
 payload_length_in Base h = payload_length h
 payload_length_in Field h = field_payload_length h
-payload_length_in Opal h = field_payload_length h
+payload_length_in Opal h =
+    if writes_more h.command then sector_size * sectors_of h else field_payload_length h

@@ -1,5 +1,6 @@
 //! The commands of the drive, and why a FIS carries none (ACS-3).
 
+use crate::control::Control;
 use crate::feature::Feature;
 use crate::log_pages::LogPages;
 use thiserror::Error;
@@ -58,6 +59,28 @@ pub enum Command {
     ReadLog {
         pages: LogPages,
         dma: bool,
+    },
+    /// READ SECTOR(S), READ MULTIPLE and their forms EXT (ACS-3): the sectors go to the host by PIO, one in each block. Only
+    /// `Opal` has it.
+    ReadPio {
+        lba: u64,
+        count: u32,
+    },
+    /// WRITE SECTOR(S), WRITE MULTIPLE and their forms EXT (ACS-3): the sectors come from the host by PIO, one in each block.
+    /// Only `Opal` has it.
+    WritePio {
+        lba: u64,
+        count: u32,
+    },
+    /// READ VERIFY SECTOR(S) and its form EXT (ACS-3): the sectors are read, and none of them goes to the host. Only `Opal`
+    /// has it.
+    Verify {
+        lba: u64,
+        count: u32,
+    },
+    /// A command of no sectors and no data. Only `Opal` has it.
+    Control {
+        control: Control,
     },
 }
 
