@@ -1,6 +1,6 @@
 -- What a profile reads.
 use Rattle.std.specs.Prelude.{option_map}
-use Rattle.std.proofs.Common.{◌≡◌, ◌∙◌, ◌%◌, ℕ, Bool, true, false, Option, Some, None, Ok, Err, cond, refl, sym, ap, arith}
+use Rattle.std.proofs.Common.{◌≡◌, ◌∙◌, ◌%◌, ℕ, Bool, true, false, Option, Some, None, Result, Ok, Err, cond, refl, sym, ap, arith}
 use Rattle.basics.specs.declared.profile.Profile.{Profile}
 use Rattle.basics.specs.declared.profile.Profile.TheVariants.{Base, Field, Opal}
 use Rattle.fis.specs.declared.h2d.RegH2d.{RegH2d}
@@ -13,6 +13,7 @@ use Rattle.trusted_cmds.specs.declared.feature.Feature.TheVariants.{WriteCache, 
 use Rattle.trusted_cmds.specs.declared.log_pages.LogPages.{LogPages}
 use Rattle.trusted_cmds.specs.declared.log_pages.LogPages.TheVariants.{Directory, IdentifyData}
 use Rattle.trusted_cmds.specs.Commands.{reading, read_unless, fault_of, is_known_code, names_error_log, read_log, read_log_dma, by_dma, log_place, pages_asked, log_read_fis, feature_fis}
+use Rattle.trusted_cmds.specs.General.{more}
 use Rattle.trusted_cmds.specs.Profiles.{reading_in, read_or, beside, names_pages, names_feature, feature_named, pages_named, is_transfer_mode, is_offered, CarriesBeside}
 
 -- What each drive reads, every profile reads the same.
@@ -24,9 +25,9 @@ known-reads Base h none = refl
 known-reads Field h none =
     ap (λ e. read_or (read_unless e h) (beside h)) none ∙ ap (λ e. read_unless e h) (sym none)
 known-reads Opal h none =
-    ap (λ e. read_or (read_unless e h) (beside h)) none ∙ ap (λ e. read_unless e h) (sym none)
+    ap (λ e. read_or (read_or (read_unless e h) (beside h)) (more h)) none ∙ ap (λ e. read_unless e h) (sym none)
 
-unknown : (h : RegH2d) → h.is_command ≡ true → is_known_code h.command ≡ false → fault_of h ≡ Some Unknown
+pub unknown : (h : RegH2d) → h.is_command ≡ true → is_known_code h.command ≡ false → fault_of h ≡ Some Unknown
 unknown h is not = grind arith
 
 not-error-log : (pages : LogPages) (h : RegH2d) → names_pages pages h ≡ true → names_error_log h ≡ false
@@ -62,6 +63,11 @@ pages-back pages dma Base is = grind arith
 mode-is : (mode : ℕ) → is_transfer_mode mode ≡ true → mode % 256 ≡ mode
 mode-is mode is = grind arith
 
+-- What the field profile reads, the opal profile reads.
+field-reads : (h : RegH2d) {x : Command × Option ℕ} → ◌≡◌ {A = Result (Command × Option ℕ) CommandError} (reading_in Field h) (Ok x)
+    → ◌≡◌ {A = Result (Command × Option ℕ) CommandError} (reading_in Opal h) (Ok x)
+field-reads h e = ap (λ (r : Result (Command × Option ℕ) CommandError). read_or r (more h)) e
+
 mode-back : (mode : ℕ) → is_transfer_mode mode ≡ true → reading_in Field (feature_fis (TransferMode mode)) ≡ Ok (SetFeatures (TransferMode mode), None)
 mode-back mode is =
     ap (λ m. read_or (Err Unknown) (option_map SetFeatures (cond (is_transfer_mode m) (Some (TransferMode m)) None))) (mode-is mode is)
@@ -78,5 +84,5 @@ feature-back (WriteCache true) Opal is = refl
 feature-back (WriteCache false) Opal is = refl
 feature-back (ReadLookAhead true) Opal is = refl
 feature-back (ReadLookAhead false) Opal is = refl
-feature-back (TransferMode mode) Opal is = mode-back mode is
+feature-back (TransferMode mode) Opal is = field-reads (feature_fis (TransferMode mode)) (mode-back mode is)
 feature-back feature Base is = grind arith

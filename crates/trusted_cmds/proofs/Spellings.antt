@@ -10,15 +10,16 @@ use Rattle.trusted_cmds.specs.declared.command.Command.TheVariants.{ReadDma, Wri
 use Rattle.trusted_cmds.specs.declared.feature.Feature.{Feature}
 use Rattle.trusted_cmds.specs.declared.log_pages.LogPages.{LogPages}
 use Rattle.trusted_cmds.specs.declared.command.CommandError.{CommandError}
-use Rattle.trusted_cmds.specs.Commands.{reading, has_lba_bit, is_log_read, read_log_dma, set_features}
-use Rattle.trusted_cmds.specs.Profiles.{reading_in, read_or, beside, short_read_dma, short_write_dma, short_flush_cache, short_lba, short_sectors, is_short_transfer, short_transfer, beside_without_sectors, feature_named, pages_named}
+use Rattle.trusted_cmds.specs.Commands.{reading, short_lba, short_sectors, has_lba_bit, is_log_read, read_log_dma, set_features}
+use Rattle.trusted_cmds.specs.Profiles.{reading_in, read_or, beside, short_read_dma, short_write_dma, short_flush_cache, is_short_transfer, short_transfer, beside_without_sectors, feature_named, pages_named}
+use Rattle.trusted_cmds.specs.General.{more}
 
 -- What each drive reads, every profile reads.
 pub ok-reads : (p : Profile) (h : RegH2d) {x : Command × Option ℕ} → ◌≡◌ {A = Result (Command × Option ℕ) CommandError} (reading h) (Ok x)
     → ◌≡◌ {A = Result (Command × Option ℕ) CommandError} (reading_in p h) (Ok x)
 ok-reads Base h e = e
 ok-reads Field h e = ap (λ (r : Result (Command × Option ℕ) CommandError). read_or r (beside h)) e
-ok-reads Opal h e = ap (λ (r : Result (Command × Option ℕ) CommandError). read_or r (beside h)) e
+ok-reads Opal h e = ap (λ (r : Result (Command × Option ℕ) CommandError). read_or (read_or r (beside h)) (more h)) e
 
 ok-same : {p q : Command × Option ℕ} → ◌≡◌ {A = Result (Command × Option ℕ) CommandError} (Ok p) (Ok q) → p ≡ q
 ok-same h = cc
@@ -45,7 +46,15 @@ pub tag-reads : (p : Profile) (h : RegH2d) (command : Command) (tag : ℕ)
     → ◌≡◌ {A = Result (Command × Option ℕ) CommandError} (reading h) (Ok (command, Some tag))
 tag-reads Base h command tag e = e
 tag-reads Field h command tag e = tag_or h command tag (reading h) (beside h) refl e
-tag-reads Opal h command tag e = tag_or h command tag (reading h) (beside h) refl e
+tag-reads Opal h command tag e = tag_or_more (reading h) (beside h) (more h) refl e
+  where
+    tag_or_more : (r : Result (Command × Option ℕ) CommandError) (x y : Option Command) → reading h ≡ r
+        → ◌≡◌ {A = Result (Command × Option ℕ) CommandError} (read_or (read_or r x) y) (Ok (command, Some tag))
+        → ◌≡◌ {A = Result (Command × Option ℕ) CommandError} (reading h) (Ok (command, Some tag))
+    tag_or_more (Ok read) x y is g = is ∙ g
+    tag_or_more (Err error) (Some c) y is g = absurd (no_tag (ok-tag g))
+    tag_or_more (Err error) None None is g = absurd (no_error g)
+    tag_or_more (Err error) None (Some c) is g = absurd (no_tag (ok-tag g))
 
 -- A write that is read beside is one of 28 bits.
 pub record IsShortWrite (h : RegH2d) (lba count : ℕ) : Type 0 where

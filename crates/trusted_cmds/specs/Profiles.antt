@@ -167,7 +167,7 @@ field_offers _ = true
 -- The commands that a profile has: SET FEATURES and the pages of the device's logs belong to the field profile, and so to
 -- the opal profile, which has the commands of every ATA device too.
 abbrev pub is_offered : Profile → Command → Bool
-is_offered Field command = field_offers command && not (is_general command)
+is_offered Field command = not (is_general command) && field_offers command
 is_offered Opal command = field_offers command
 is_offered Base (SetFeatures feature) = false
 is_offered Base (ReadLog pages dma) = false

@@ -2,7 +2,8 @@
 
 ghost use Rattle.std.specs.Prelude.{◌≡◌, ◌%◌, ◌==◌, ◌&&◌, ◌||◌, IfSome, Some, true};
 ghost use Rattle.trusted_cmds.specs.declared.control.Control.{Control};
-ghost use Rattle.trusted_cmds.specs.General.{control_code, control_count, names_control, control_named};
+ghost use Rattle.trusted_cmds.specs.Commands.{control_code, control_count};
+ghost use Rattle.trusted_cmds.specs.General.{names_control, control_named};
 
 use fis::RegH2d;
 

@@ -1,8 +1,7 @@
 //! The fields of a FIS, as the commands read them (ACS-3, the commands' tables of inputs).
 
 ghost use Rattle.std.specs.Prelude.{◌≡◌, ◌<◌, ◌≤◌, ◌+◌, ◌*◌, ◌/◌, ◌%◌, ◌==◌, ◌&&◌};
-ghost use Rattle.trusted_cmds.specs.Commands.{most_sectors, sectors, sectors_field, has_lba_bit, tag_of, protocol_of, sp_specific_of, blocks, names_error_log, error_log_address};
-ghost use Rattle.trusted_cmds.specs.Profiles.{short_lba, short_sectors};
+ghost use Rattle.trusted_cmds.specs.Commands.{most_sectors, sectors, sectors_field, has_lba_bit, tag_of, protocol_of, sp_specific_of, blocks, names_error_log, error_log_address, short_lba, short_sectors};
 
 use fis::{RegH2d, Tag};
 

@@ -4,8 +4,10 @@
 mod block;
 mod codes;
 mod command;
+mod control;
 mod feature;
 mod fields;
+mod general;
 mod log_pages;
 mod payload;
 mod reading;
@@ -15,6 +17,7 @@ mod spelling;
 pub use block::{BLOCK_COM_ID, SidBlock, is_block_sid};
 pub use codes::is_queued;
 pub use command::{Command, CommandError};
+pub use control::Control;
 pub use feature::{Feature, is_multiword, is_ultra};
 pub use fields::{sectors, tag_of};
 pub use log_pages::LogPages;

@@ -1,9 +1,10 @@
 //! The command that a FIS carries.
 
-ghost use Rattle.std.specs.Prelude.{◌≡◌, Option, Some, None, IfOk, IfErr, IfSome, Ok, Err, ℕ, true, false};
+ghost use Rattle.std.specs.Prelude.{◌≡◌, ◌⊎◌, Option, Some, None, IfOk, IfErr, IfSome, Ok, Err, ℕ, true, false};
 ghost use Rattle.trusted_cmds.specs.declared.command.Command.{Command};
 ghost use Rattle.trusted_cmds.specs.Commands.{Carries, IsCounted, fault_of, command_of, command_without_sectors, tag_in, reading};
 ghost use Rattle.trusted_cmds.specs.Profiles.{CarriesIn, CarriesBeside, is_short_transfer, short_transfer, beside_without_sectors, beside, reading_in, read_or, payload_length_in};
+ghost use Rattle.trusted_cmds.specs.General.{CarriesMore, more, writes_more};
 ghost use Rattle.trusted_cmds.specs.BlockSid.{is_block_sid};
 ghost use Rattle.basics.specs.declared.profile.Profile.TheVariants.{Base, Field, Opal};
 
@@ -14,6 +15,7 @@ use crate::fields::{
     blocks, has_lba_bit, names_error_log, protocol_of, sectors, short_lba, short_sectors,
     sp_specific_of, tag_of,
 };
+use crate::general::more;
 use crate::log_pages::pages_named;
 use basics::Profile;
 use fis::{RegH2d, Tag};
@@ -186,10 +188,27 @@ fn beside_or(h: &RegH2d, error: CommandError) -> Result<(Command, Option<Tag>), 
     }
 }
 
+/// The same, or else what `Opal` has beside, or the error.
+#[tactic(auto, using(crate::proofs::Apart::apart))]
+fn more_or(h: &RegH2d, error: CommandError) -> Result<(Command, Option<Tag>), CommandError>
+    ensures exact { result ≡ read_or (read_or (Err error) (beside h.now)) (more h.now) }
+    ensures found { IfOk result (λ r. CarriesBeside h.now r.0 r.1 ⊎ CarriesMore h.now r.0 r.1) }
+    ensures beside { (c : Command) (t : Option ℕ) → CarriesBeside h.now c t → result ≡ Ok (c, t) }
+    ensures more { (c : Command) (t : Option ℕ) → CarriesMore h.now c t → result ≡ Ok (c, t) }
+    ensures counted { IfOk result (λ r. IsCounted r.0) }
+    ensures refused { IfErr result (λ e. e ≡ error) }
+{
+    match (beside(h), more(h)) {
+        (Some(command), _) => Ok((command, None)),
+        (None, Some(command)) => Ok((command, None)),
+        (None, None) => Err(error),
+    }
+}
+
 /// The command that a FIS carries under a profile, with its tag where it is queued. What `Base` reads, each profile reads
-/// the same; a few FISes that `Base` refuses are commands under `Field`, and `Opal` reads what `Field` does. The errors come in this order: `NotCommand`,
-/// `Unknown`, `Device`, `LogPage`.
-#[tactic(auto, using(crate::proofs::Profiles::faulty))]
+/// the same; a few FISes that `Base` refuses are commands under `Field`, and more of them under `Opal`, which reads what
+/// `Field` does. The errors come in this order: `NotCommand`, `Unknown`, `Device`, `LogPage`.
+#[tactic(auto, using(crate::proofs::Profiles::faulty, crate::proofs::Apart::unknown))]
 pub fn of_fis(profile: Profile, h: &RegH2d) -> Result<(Command, Option<Tag>), CommandError>
     ensures exact { result ≡ reading_in profile h.now }
     ensures found { IfOk result (λ r. CarriesIn profile h.now r.0 r.1) }
@@ -200,18 +219,19 @@ pub fn of_fis(profile: Profile, h: &RegH2d) -> Result<(Command, Option<Tag>), Co
     let read = base_of(h);
     match (read, profile) {
         (Err(error), Profile::Field) => beside_or(h, error),
-        (Err(error), Profile::Opal) => beside_or(h, error),
+        (Err(error), Profile::Opal) => more_or(h, error),
         (read, _) => read,
     }
 }
 
 /// What each drive reads, it reads under every profile, and `Base` reads nothing else. `Opal` reads what `Field` does, and
-/// as much comes with it.
+/// as much comes with it; and it reads more, with which sectors come where they are written.
 pub fn laws_of_profiles()
     ensures base { (h : RegH2d) → reading_in Base h ≡ reading h }
     ensures known { (p : Profile) (h : RegH2d) → fault_of h ≡ None → reading_in p h ≡ reading h }
     ensures field { (h : RegH2d) → reading_in Field h ≡ read_or (reading h) (beside h) }
-    ensures opal { (h : RegH2d) → reading_in Opal h ≡ reading_in Field h }
-    ensures brought { (h : RegH2d) → payload_length_in Opal h ≡ payload_length_in Field h }
+    ensures opal { (h : RegH2d) → reading_in Opal h ≡ read_or (reading_in Field h) (more h) }
+    ensures brought { (h : RegH2d) → writes_more h.command ≡ false
+        → payload_length_in Opal h ≡ payload_length_in Field h }
     ensures blocking { (c : Command) → is_block_sid Opal c ≡ is_block_sid Field c }
 {}

@@ -121,5 +121,9 @@ pub fn to_fis(command: &Command, tag: Tag) -> RegH2d
         Command::Flush => fis_with(FLUSH_CACHE, 0, 0, 0, 0),
         Command::SetFeatures { feature } => set_features(feature),
         Command::ReadLog { pages, dma } => log_read(log_place(&pages), pages.count(), dma),
+        Command::ReadPio { lba, count } => unqueued(READ_SECTORS_EXT, lba, count),
+        Command::WritePio { lba, count } => unqueued(WRITE_SECTORS_EXT, lba, count),
+        Command::Verify { lba, count } => unqueued(VERIFY_SECTORS_EXT, lba, count),
+        Command::Control { control } => fis_with(control.code(), 0, 0, 0, control.count()),
     }
 }
