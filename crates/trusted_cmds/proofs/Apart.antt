@@ -24,27 +24,27 @@ one-more f v code n false before at is = ap f (same code n is) ∙ at
 at-code : (f : ℕ → Bool) (v : Bool) (code n : ℕ) → f n ≡ v → (code == n) ≡ true → f code ≡ v
 at-code f v code n at is = ap f (same code n is) ∙ at
 
-reads-at : (f : ℕ → Bool) (v : Bool) → f 0x20 ≡ v → f 0x24 ≡ v → f 0xc4 ≡ v → f 0x29 ≡ v → (code : ℕ)
+pub reads-at : (f : ℕ → Bool) (v : Bool) → f 0x20 ≡ v → f 0x24 ≡ v → f 0xc4 ≡ v → f 0x29 ≡ v → (code : ℕ)
     → reads_pio code ≡ true → f code ≡ v
 reads-at f v a b c d code is =
     one-more f v code 0x29 _ (one-more f v code 0xc4 _ (one-more f v code 0x24 _ (at-code f v code 0x20 a) b) c) d is
 
-writes-at : (f : ℕ → Bool) (v : Bool) → f 0x30 ≡ v → f 0x34 ≡ v → f 0xc5 ≡ v → f 0x39 ≡ v → (code : ℕ)
+pub writes-at : (f : ℕ → Bool) (v : Bool) → f 0x30 ≡ v → f 0x34 ≡ v → f 0xc5 ≡ v → f 0x39 ≡ v → (code : ℕ)
     → writes_pio code ≡ true → f code ≡ v
 writes-at f v a b c d code is =
     one-more f v code 0x39 _ (one-more f v code 0xc5 _ (one-more f v code 0x34 _ (at-code f v code 0x30 a) b) c) d is
 
-verifies-at : (f : ℕ → Bool) (v : Bool) → f 0x40 ≡ v → f 0x42 ≡ v → (code : ℕ) → verifies code ≡ true → f code ≡ v
+pub verifies-at : (f : ℕ → Bool) (v : Bool) → f 0x40 ≡ v → f 0x42 ≡ v → (code : ℕ) → verifies code ≡ true → f code ≡ v
 verifies-at f v a b code is = one-more f v code 0x42 _ (at-code f v code 0x40 a) b is
 
-through-at : (f : ℕ → Bool) (v : Bool) → f 0x3d ≡ v → (code : ℕ) → writes_through code ≡ true → f code ≡ v
+pub through-at : (f : ℕ → Bool) (v : Bool) → f 0x3d ≡ v → (code : ℕ) → writes_through code ≡ true → f code ≡ v
 through-at f v a code is = at-code f v code 0x3d a is
 
 both-left : (a b : Bool) → (a && b) ≡ true → a ≡ true
 both-left true b is = refl
 both-left false b is = is
 
-control-at : (f : ℕ → Bool) (v : Bool) → f 0xc6 ≡ v → f 0xe1 ≡ v → f 0xe3 ≡ v → f 0xe5 ≡ v → f 0x90 ≡ v
+pub control-at : (f : ℕ → Bool) (v : Bool) → f 0xc6 ≡ v → f 0xe1 ≡ v → f 0xe3 ≡ v → f 0xe5 ≡ v → f 0x90 ≡ v
     → (h : RegH2d) (c : controls.Control) → names_control c h ≡ true → f h.command ≡ v
 control-at f v a b c d e h SetMultiple is = at-code f v h.command 0xc6 a (both-left _ _ is)
 control-at f v a b c d e h Idle is = one-more f v h.command 0xe3 _ (at-code f v h.command 0xe1 b) c is
@@ -76,11 +76,11 @@ unknown h c t k =
     (carried-at is_known_code false refl refl refl refl refl refl refl refl refl refl refl refl refl refl refl refl h c t k)
 
 -- Nor does the field profile read it beside.
-abbrev is_beside : ℕ → Bool
+abbrev pub is_beside : ℕ → Bool
 is_beside code =
     is_short_transfer code || (code == short_flush_cache || (code == set_features || is_log_read code))
 
-beside-none : (h : RegH2d) → h.is_command ≡ true → is_beside h.command ≡ false → beside h ≡ None
+pub beside-none : (h : RegH2d) → h.is_command ≡ true → is_beside h.command ≡ false → beside h ≡ None
 beside-none h is not = grind arith
 
 pub apart : (h : RegH2d) (c : Command) (t : Option ℕ) → CarriesMore h c t → beside h ≡ None

@@ -1,3 +1,4 @@
 pub mod Apart
 pub mod Profiles
+pub mod Sizes
 pub mod Spellings
