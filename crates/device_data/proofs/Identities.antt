@@ -12,7 +12,7 @@ use Rattle.device_data.specs.Checksums.{with_sum}
 use Rattle.device_data.specs.Identity.{low_first, run_from, opal_word, opal_words, has_checksum, opal_identity, identity_in}
 
 byte_sum-append : (xs ys : List ℕ) → byte_sum (xs ++ ys) ≡ byte_sum xs + byte_sum ys
-byte_sum-append [] ys = refl
+byte_sum-append [] ys = omega arith
 byte_sum-append (x ∷ xs) ys = omega (arith, byte_sum-append xs ys)
 
 filled : (s : ℕ) → (s + ((256 - s % 256) % 256 + 0)) % 256 ≡ 0
