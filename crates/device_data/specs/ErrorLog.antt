@@ -2,8 +2,8 @@
 use Rattle.std.specs.Prelude.{ℕ, ◌+◌, ◌-◌, ◌/◌, ◌%◌, ◌^◌, List, [], ◌∷◌, ◌++◌, length, take, replicate, Option, Some, None, unwrap_or}
 use Rattle.fis.specs.declared.h2d.RegH2d.{RegH2d}
 use Rattle.device_data.specs.Identity.{low_first}
+use Rattle.device_data.specs.Checksums.{with_sum}
 use Rattle.device_data.specs.declared.log_page.Failure.{Failure}
-use Rattle.basics.specs.Sums.{byte_sum}
 
 -- The failure of the command that a FIS carried: its tag where it is queued, the error, and fields
 -- of the FIS.
@@ -28,8 +28,5 @@ page_head (Some failure) =
     ++ failure.device ∷ lba_bytes failure.lba 24 ++ 0 ∷ low_first failure.count
 
 -- The last byte makes the sum of all a multiple of 256.
-abbrev pub with_sum : List ℕ → List ℕ
-with_sum content = content ++ (256 - byte_sum content % 256) % 256 ∷ []
-
 abbrev pub error_log : Option Failure → List ℕ
 error_log failure = with_sum (sized 511 (page_head failure))

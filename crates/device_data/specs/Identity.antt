@@ -1,10 +1,12 @@
 -- IDENTIFY DEVICE: what a drive says that it is (ACS-3, IDENTIFY DEVICE data).
-use Rattle.std.specs.Prelude.{ℕ, zero, suc, ◌+◌, ◌-◌, ◌*◌, ◌/◌, ◌%◌, ◌^◌, ◌==◌, Bool, ◌&&◌, ◌||◌, nat_le, List, [], ◌∷◌, slice_index_or, codes, if◌then◌else◌}
+use Rattle.std.specs.Prelude.{ℕ, zero, suc, ◌+◌, ◌-◌, ◌*◌, ◌/◌, ◌%◌, ◌^◌, ◌==◌, Bool, ◌&&◌, ◌||◌, nat_le, List, [], ◌∷◌, ◌++◌, slice_index_or, codes, if◌then◌else◌}
 use Rattle.std.specs.List.{flat_map}
 use Rattle.basics.specs.declared.profile.Profile.{Profile}
 use Rattle.basics.specs.declared.profile.Profile.TheVariants.{Base, Field, Opal}
 use Rattle.sp_cells.specs.Config.{Config}
+use Rattle.trusted_cmds.specs.Commands.{sectors_in_block}
 use Rattle.trusted_cmds.specs.Profiles.{is_multiword, is_ultra}
+use Rattle.device_data.specs.Checksums.{with_sum}
 use Rattle.device_data.specs.declared.settings.Settings.{Settings}
 
 -- Words 100 to 103: how many sectors there are, the low word first.
@@ -112,10 +114,38 @@ abbrev pub field_identity : Config → Settings → List ℕ
 field_identity config settings =
     flat_map (λ word. low_first (field_word config settings word)) (run_from 0 256)
 
+-- What the opal profile tells in place of that. Word 47: 80h in its upper byte, and how many sectors a block of READ MULTIPLE
+-- and WRITE MULTIPLE has at most. 59: how many it has now, and bit 8 says that this is set; there is no SANITIZE (bit 12). 86:
+-- bit 15 says that words 119 and 120 are told, and so does bit 14 of each; they have no further bit. 217: a medium that does
+-- not rotate. 222: a serial transport (bits 15:12 are 1h), by SATA 1.0a to SATA 3.0 (bits 1 to 5), since word 76 has the speed
+-- that came with SATA 3.0. All other words are the field profile's: in 82 and 85 Power Management (bit 3) is clear, since STANDBY
+-- and SLEEP are not there; in 84 and 87 so is WRITE DMA FUA EXT with WRITE MULTIPLE FUA EXT (bit 6), since the second is not
+-- there; and 105 and 169 are 0, since DATA SET MANAGEMENT is not there.
+abbrev pub opal_word : Config → Settings → ℕ → ℕ
+opal_word config settings word =
+    if word == 47 then 0x8000 + sectors_in_block
+    else (if word == 59 then 0x0100 + sectors_in_block
+    else (if word == 86 then 0xb400
+    else (if is_between 119 120 word then 0x4000
+    else (if word == 217 then 0x0001
+    else (if word == 222 then 0x103e else field_word config settings word)))))
+
+-- Words 0 to 254.
+abbrev pub opal_words : Config → Settings → List ℕ
+opal_words config settings =
+    flat_map (λ word. low_first (opal_word config settings word)) (run_from 0 255)
+
+-- Word 255: its low byte says that it has a checksum, and its high byte makes the sum of all bytes a multiple of 256.
+abbrev pub has_checksum : ℕ
+has_checksum = 0xa5
+
+abbrev pub opal_identity : Config → Settings → List ℕ
+opal_identity config settings = with_sum (opal_words config settings ++ has_checksum ∷ [])
+
 abbrev pub identity_in : Profile → Config → Settings → List ℕ
 identity_in Base config settings = identity config.sectors
 identity_in Field config settings = field_identity config settings
-identity_in Opal config settings = field_identity config settings
+identity_in Opal config settings = opal_identity config settings
 
 -- What a drive answers, by its configuration and what a host has chosen.
 abbrev pub identity_of : Config → Settings → List ℕ

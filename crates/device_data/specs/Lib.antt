@@ -1,4 +1,5 @@
 pub mod Discovery
+pub mod Checksums
 pub mod Identity
 pub mod ErrorLog
 pub mod DevicePages

@@ -1,10 +1,14 @@
 //! IDENTIFY DEVICE (ACS-3, IDENTIFY DEVICE data).
 
-ghost use Rattle.std.specs.Prelude.{◌≡◌, ◌≤◌, ◌<◌, ◌%◌, IfOk, true, slice_index_or};
-ghost use Rattle.device_data.specs.Identity.{sectors_word, identify_word, identity, text_word, is_between, firmware, has_text, name_word, short_capacity, driver_word, mode_bit, settings_word, is_of_settings, field_word, field_identity, identity_in, identity_of};
+ghost use Rattle.std.specs.Prelude.{◌≡◌, ◌≤◌, ◌<◌, ◌%◌, IfOk, true, length, slice_index_or};
+ghost use Rattle.basics.specs.Sums.{byte_sum};
+ghost use Rattle.basics.specs.declared.profile.Profile.TheVariants.{Opal};
+ghost use Rattle.sp_cells.specs.Config.{Config};
+ghost use Rattle.device_data.specs.Identity.{sectors_word, identify_word, identity, text_word, is_between, firmware, has_text, name_word, short_capacity, driver_word, mode_bit, settings_word, is_of_settings, field_word, field_identity, opal_word, opal_words, has_checksum, opal_identity, identity_in, identity_of};
+ghost use Rattle.device_data.specs.declared.settings.Settings.{Settings};
 
 use crate::settings::Settings;
-use basics::Profile;
+use basics::{Profile, byte_sum};
 use sp_cells::DriveConfig;
 use std::alloc::{AllocError, Global};
 use trusted_cmds::{is_multiword, is_ultra};
@@ -147,7 +151,7 @@ fn settings_word(settings: &Settings, word: u16) -> u16
     }
 }
 
-/// A word of the answer under `Field` and `Opal`.
+/// A word of the answer under `Field`.
 fn field_word(config: &DriveConfig, settings: &Settings, word: u16) -> u16
     ensures { result ≡ field_word config.now settings.now word }
 {
@@ -160,7 +164,7 @@ fn field_word(config: &DriveConfig, settings: &Settings, word: u16) -> u16
     }
 }
 
-/// The 512 bytes of the answer under `Field` and `Opal`.
+/// The 512 bytes of the answer under `Field`.
 fn field_identity(
     alloc: Global,
     config: &DriveConfig,
@@ -175,9 +179,73 @@ fn field_identity(
     Ok(bytes)
 }
 
+/// How many sectors a block by PIO has.
+const SECTORS_IN_BLOCK: u16 = 1;
+
+/// What says that the last word has a checksum.
+const HAS_CHECKSUM: u8 = 0xa5;
+
+/// A word of the answer under `Opal`, other than the last.
+fn opal_word(config: &DriveConfig, settings: &Settings, word: u16) -> u16
+    ensures { result ≡ opal_word config.now settings.now word }
+{
+    match word {
+        47 => 0x8000 + SECTORS_IN_BLOCK,
+        59 => 0x0100 + SECTORS_IN_BLOCK,
+        86 => 0xb400,
+        119 | 120 => 0x4000,
+        217 => 0x0001,
+        222 => 0x103e,
+        _ => field_word(config, settings, word),
+    }
+}
+
+/// The bytes of all words but the last under `Opal`.
+fn opal_words(
+    alloc: Global,
+    config: &DriveConfig,
+    settings: &Settings,
+) -> Result<Vec<u8>, AllocError>
+    ensures { IfOk result (λ bytes. bytes.items ≡ opal_words config.now settings.now) }
+{
+    let mut bytes = Vec::with_capacity(alloc, 2 * usize::from(WORDS))?;
+    for word in 0..WORDS - 1 {
+        bytes.extend_from_slice(&opal_word(config, settings, word).to_le_bytes())?;
+    }
+    Ok(bytes)
+}
+
+/// The 512 bytes of the answer under `Opal`. The last one makes the sum of all a multiple of 256.
+fn opal_identity(
+    alloc: Global,
+    config: &DriveConfig,
+    settings: &Settings,
+) -> Result<Vec<u8>, AllocError>
+    ensures { IfOk result (λ bytes. bytes.items ≡ opal_identity config.now settings.now) }
+{
+    let mut bytes = opal_words(alloc, config, settings)?;
+    bytes.push(HAS_CHECKSUM)?;
+    let sum = byte_sum(&bytes);
+    bytes.push(sum.wrapping_neg())?;
+    Ok(bytes)
+}
+
+/// Under `Opal` the last word is a checksum that holds: byte 510 says that there is one, and the sum of all 512 bytes is a
+/// multiple of 256.
+#[tactic(auto, using(crate::proofs::Identities::opal_length, crate::proofs::Identities::opal_checked, crate::proofs::Identities::opal_sum))]
+pub fn laws_of_identity()
+    ensures length { (config : Config) (settings : Settings)
+        → length (identity_in Opal config settings) ≡ 512 }
+    ensures told { (config : Config) (settings : Settings)
+        → slice_index_or (identity_in Opal config settings) 510 0 ≡ 0xa5 }
+    ensures sum { (config : Config) (settings : Settings)
+        → byte_sum (identity_in Opal config settings) % 256 ≡ 0 }
+{}
+
 /// The 512 bytes that a drive answers to IDENTIFY DEVICE by its configuration and by what a host has chosen. Under `Base`
-/// they are those of `identity`. Under `Field` and `Opal` they also have the names of the drive, the sectors that an address of 28 bits
-/// reaches, and the words by which a driver finds how to talk to it.
+/// they are those of `identity`. Under `Field` they also have the names of the drive, the sectors that an address of 28 bits
+/// reaches, and the words by which a driver finds how to talk to it. Under `Opal` they tell besides how many sectors a block
+/// by PIO has, what the medium and the transport are, and a checksum.
 pub fn identity_of(
     alloc: Global,
     config: &DriveConfig,
@@ -187,6 +255,7 @@ pub fn identity_of(
 {
     match config.profile() {
         Profile::Base => identity(alloc, config.sectors()),
-        Profile::Field | Profile::Opal => field_identity(alloc, config, settings),
+        Profile::Field => field_identity(alloc, config, settings),
+        Profile::Opal => opal_identity(alloc, config, settings),
     }
 }

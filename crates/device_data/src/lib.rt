@@ -9,7 +9,7 @@ mod protocols;
 mod settings;
 mod stack_reset;
 
-pub use identify::{identity, identity_of};
+pub use identify::{identity, identity_of, laws_of_identity};
 pub use level0::{DISCOVERY_LENGTH, FIELD_DISCOVERY_LENGTH, discovery, field_discovery, has_owner};
 pub use log_page::{Failure, error_log};
 pub use pages::device_log;

@@ -2,7 +2,8 @@
 
 ghost use Rattle.std.specs.Prelude.{◌≡◌, ◌%◌, Option, ℕ, IfOk};
 ghost use Rattle.fis.specs.declared.h2d.RegH2d.{RegH2d};
-ghost use Rattle.device_data.specs.ErrorLog.{page_head, with_sum, error_log};
+ghost use Rattle.device_data.specs.Checksums.{with_sum};
+ghost use Rattle.device_data.specs.ErrorLog.{page_head, error_log};
 
 use basics::byte_sum;
 use fis::{Lba, RegH2d, Tag};

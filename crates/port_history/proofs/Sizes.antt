@@ -14,7 +14,8 @@ use Rattle.std.specs.List.{flat_map}
 use Rattle.std.proofs.lemmas.List.{length-take, length-take-le, length-drop, length-append, length-replicate}
 use Rattle.std.proofs.lemmas.Bool.Decides.{nat_tests}
 use Rattle.device_data.specs.ErrorLog.{sized, error_log, page_head}
-use Rattle.device_data.specs.Identity.{identity, identify_word, low_first, run_from, identity_in, identity_of, field_word, field_identity}
+use Rattle.device_data.proofs.Identities.{length-words, length-run, opal_length}
+use Rattle.device_data.specs.Identity.{identity, identify_word, run_from, identity_in, identity_of, field_word, field_identity}
 use Rattle.device_data.specs.Discovery.{discovery_of}
 use Rattle.device_data.specs.StackReset.{stack_answer}
 use Rattle.sessions.specs.Beside.{channel_of}
@@ -145,15 +146,6 @@ length-told false true f command com_id room =
 length-told false false f command com_id room =
     length-certificates (asks_certificates f.config.profile command) f com_id room
 
-length-words : (word : ℕ → ℕ) (xs : List ℕ)
-    → length (flat_map (λ x. low_first (word x)) xs) ≡ 2 * length xs
-length-words word [] = refl
-length-words word (x ∷ xs) = omega (arith, length-words word xs)
-
-length-run : (first n : ℕ) → length (run_from first n) ≡ n
-length-run first zero = refl
-length-run first (suc n) = omega (arith, length-run (suc first) n)
-
 length-identity : (sectors : ℕ) → length (identity sectors) ≡ 512
 length-identity sectors =
     length-words (identify_word sectors) (run_from 0 256)
@@ -167,7 +159,7 @@ length-field config settings =
 length-known : (p : Profile) (config : Config) (settings : Settings) → length (identity_in p config settings) ≡ 512
 length-known Base config settings = length-identity config.sectors
 length-known Field config settings = length-field config settings
-length-known Opal config settings = length-field config settings
+length-known Opal config settings = opal_length config settings
 
 -- each page has 512 bytes
 length-page : (config : Config) (settings : Settings) (page : ℕ) → length (identify_page config settings page) ≡ 512
