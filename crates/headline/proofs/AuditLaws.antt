@@ -198,6 +198,10 @@ completion_denies u bytes (commands.ReadLog10 dma) = refl
 completion_denies u bytes commands.Flush = refl
 completion_denies u bytes (commands.SetFeatures feature) = refl
 completion_denies u bytes (commands.ReadLog page dma) = refl
+completion_denies u bytes (commands.ReadPio lba count) = refl
+completion_denies u bytes (commands.WritePio lba count) = refl
+completion_denies u bytes (commands.Verify lba count) = refl
+completion_denies u bytes (commands.Control control) = refl
 
 none_completed : (u : ℕ) (bytes : List ℕ) (h : Option HeldCommand) → (completed u bytes h).denied ≡ None
 none_completed u bytes None = refl

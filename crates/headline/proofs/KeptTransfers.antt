@@ -243,6 +243,10 @@ known_unqueued items f h bytes command tag e = by_command command e
     by_command commands.Flush e = refl
     by_command (commands.SetFeatures feature) e = refl
     by_command (commands.ReadLog page dma) e = refl
+    by_command (commands.ReadPio lba count) e = refl
+    by_command (commands.WritePio lba count) e = refl
+    by_command (commands.Verify lba count) e = refl
+    by_command (commands.Control control) e = refl
 
 pub unqueued_event : (items : Items) (still : IsForPorts items) (o : Origin) (ms : List Moment) (u : ℕ) (put : Put) → u < 32 → Kept ms
     → failed ms ≡ None → stage ms u ≡ Issued put → is_queued_command put.command ≡ false

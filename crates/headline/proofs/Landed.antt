@@ -185,6 +185,10 @@ executed_lands items f past content given (commands.ReadLog10 dma) unqueued_is l
 executed_lands items f past content given commands.Flush unqueued_is long = tt
 executed_lands items f past content given (commands.SetFeatures feature) unqueued_is long = tt
 executed_lands items f past content given (commands.ReadLog page dma) unqueued_is long = tt
+executed_lands items f past content given (commands.ReadPio lba count) unqueued_is long = tt
+executed_lands items f past content given (commands.WritePio lba count) unqueued_is long = tt
+executed_lands items f past content given (commands.Verify lba count) unqueued_is long = tt
+executed_lands items f past content given (commands.Control control) unqueued_is long = tt
 
 -- a completion
 completed_lands : (u : ℕ) (past : List Event) (content : List ℕ) (a : Option Answer) (command : Command)
@@ -205,6 +209,10 @@ completed_lands u past content a (commands.ReadLog10 dma) queued long = tt
 completed_lands u past content a commands.Flush queued long = tt
 completed_lands u past content a (commands.SetFeatures feature) queued long = tt
 completed_lands u past content a (commands.ReadLog page dma) queued long = tt
+completed_lands u past content a (commands.ReadPio lba count) queued long = tt
+completed_lands u past content a (commands.WritePio lba count) queued long = tt
+completed_lands u past content a (commands.Verify lba count) queued long = tt
+completed_lands u past content a (commands.Control control) queued long = tt
 
 split : (items : Items) (o : Origin) (list : List Step) (u : ℕ) → LandedAt items o list u
     → ((t : ℕ) → (u == t) ≡ false → LandedAt items o list t) → (t : ℕ) → LandedAt items o list t

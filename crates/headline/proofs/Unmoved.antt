@@ -190,6 +190,10 @@ executed_unmoved items f own content given (commands.ReadLog10 dma) unqueued_is 
 executed_unmoved items f own content given commands.Flush unqueued_is k = tt
 executed_unmoved items f own content given (commands.SetFeatures feature) unqueued_is k = tt
 executed_unmoved items f own content given (commands.ReadLog page dma) unqueued_is k = tt
+executed_unmoved items f own content given (commands.ReadPio lba count) unqueued_is k = tt
+executed_unmoved items f own content given (commands.WritePio lba count) unqueued_is k = tt
+executed_unmoved items f own content given (commands.Verify lba count) unqueued_is k = tt
+executed_unmoved items f own content given (commands.Control control) unqueued_is k = tt
 
 -- A completion.
 completed_unmoved : (u : ℕ) (own : List Event) (content bytes : List ℕ) (command : Command)
@@ -208,6 +212,10 @@ completed_unmoved u own content bytes (commands.ReadLog10 dma) queued k = tt
 completed_unmoved u own content bytes commands.Flush queued k = tt
 completed_unmoved u own content bytes (commands.SetFeatures feature) queued k = tt
 completed_unmoved u own content bytes (commands.ReadLog page dma) queued k = tt
+completed_unmoved u own content bytes (commands.ReadPio lba count) queued k = tt
+completed_unmoved u own content bytes (commands.WritePio lba count) queued k = tt
+completed_unmoved u own content bytes (commands.Verify lba count) queued k = tt
+completed_unmoved u own content bytes (commands.Control control) queued k = tt
 
 split : (items : Items) (o : Origin) (list : List Step) (u : ℕ) → UnmovedAt items o list u
     → ((t : ℕ) → (u == t) ≡ false → UnmovedAt items o list t) → (t : ℕ) → UnmovedAt items o list t

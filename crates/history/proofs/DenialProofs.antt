@@ -21,7 +21,7 @@ use Rattle.tcg_tokens.specs.Message.{Message, call, reply, end_session, begin, e
 use Rattle.tcg_tokens.specs.Reading.{reading as message_in}
 use Rattle.tcg_tokens.specs.Tree.{Tree, Trees, bytes}
 use Rattle.trusted_cmds.specs.declared.command.Command.{Command}
-use Rattle.trusted_cmds.specs.declared.command.Command.TheVariants.{ReadQueued, WriteQueued, ReadDma, WriteDma, Send, Receive, Identify, ReadLog10, Flush, SetFeatures, ReadLog}
+use Rattle.trusted_cmds.specs.declared.command.Command.TheVariants.{ReadQueued, WriteQueued, ReadDma, WriteDma, Send, Receive, Identify, ReadLog10, Flush, SetFeatures, ReadLog, ReadPio, WritePio, Verify, Control}
 use Rattle.trusted_cmds.specs.declared.command.CommandError.{CommandError}
 use Rattle.locking.specs.declared.ranges.Verdict.{Verdict}
 use Rattle.locking.specs.declared.ranges.Verdict.TheVariants.{Serve, Shadow, Denied}
@@ -59,7 +59,7 @@ use Rattle.history.specs.Tcg.{answers, breaks_off, broken_off, is_discarded, man
 use Rattle.methods.specs.Calls.{tried_in, outcome_of}
 use Rattle.history.specs.History.{Act, Accept, Complete, Reset, SoftwareReset, event_by}
 use Rattle.history.specs.MethodLaws.{IsLookedAt, IsSent, IsCall}
-use Rattle.history.specs.DenialLaws.{Moves, read_queued, write_queued, read_dma, write_dma, IsFree, TransferDenied, MethodDenied, AttemptDenied, StartDenied, IsDenied, DenialLaw}
+use Rattle.history.specs.DenialLaws.{Reaches, read_queued, write_queued, read_dma, write_dma, read_pio, write_pio, verify, IsFree, TransferDenied, MethodDenied, AttemptDenied, StartDenied, IsDenied, DenialLaw}
 use Rattle.history.proofs.MethodProofs.{looked_event, looked_law, sent_law, call_law}
 use Rattle.sp_cells.specs.Resets.{programmatic}
 use Rattle.audit.specs.declared.rules.rule.Rule.TheVariants.{NoCommand, Unreadable, Mixed, BeyondDrive, SidKept, NoMethod, OutsideTable, TooLong, GlobalLocked, NoFrame, Discarded, BrokenOff, ManyRandomBytes}
@@ -70,7 +70,7 @@ use Rattle.device_data.specs.StackReset.{is_stack_reset}
 
 -- forward: each of the four is denied for its reason
 
-moved : (f : Facts) (h : RegH2d) (payload : List ℕ) (command : Command) (tag : Option ℕ) (op : Op) (lba count : ℕ) (why : Why) → Moves command tag op lba count → IsFree f tag → on_drive f lba count ≡ true → verdict_on f op lba count ≡ Denied why → (looked_event tcg f h payload command tag).denied ≡ Some why
+moved : (f : Facts) (h : RegH2d) (payload : List ℕ) (command : Command) (tag : Option ℕ) (op : Op) (lba count : ℕ) (why : Why) → Reaches command tag op lba count → IsFree f tag → on_drive f lba count ≡ true → verdict_on f op lba count ≡ Denied why → (looked_event tcg f h payload command tag).denied ≡ Some why
 moved f h payload c tag op lba count why (read_queued {lba = l} {count = n} {tag = t}) free drive v =
     ap (λ x. (admitted f h t (ReadQueued l n) (is_some x)).denied) free
     ∙ ap (λ b. (cond b (queued_by h t (ReadQueued l n) (verdict_on f Read l n)) (fails_queue (Some t) not_found h None (Some BeyondDrive))).denied) drive
@@ -85,6 +85,15 @@ moved f h payload c tag op lba count why (read_dma {lba = l} {count = n}) free d
 moved f h payload c tag op lba count why (write_dma {lba = l} {count = n}) free drive v =
     ap (λ b. (cond b (unqueued_by (Wrote l payload) (verdict_on f Write l n)) (fails not_found None (Some BeyondDrive))).denied) drive
     ∙ ap (λ x. (unqueued_by (Wrote l payload) x).denied) v
+moved f h payload c tag op lba count why (read_pio {lba = l} {count = n}) free drive v =
+    ap (λ b. (cond b (unqueued_by Nothing (verdict_on f Read l n)) (fails not_found None (Some BeyondDrive))).denied) drive
+    ∙ ap (λ x. (unqueued_by Nothing x).denied) v
+moved f h payload c tag op lba count why (write_pio {lba = l} {count = n}) free drive v =
+    ap (λ b. (cond b (unqueued_by (Wrote l payload) (verdict_on f Write l n)) (fails not_found None (Some BeyondDrive))).denied) drive
+    ∙ ap (λ x. (unqueued_by (Wrote l payload) x).denied) v
+moved f h payload c tag op lba count why (verify {lba = l} {count = n}) free drive v =
+    ap (λ b. (cond b (unqueued_by Nothing (verdict_on f Read l n)) (fails not_found None (Some BeyondDrive))).denied) drive
+    ∙ ap (λ x. (unqueued_by Nothing x).denied) v
 
 transfer-denied : (f : Facts) (act : Act) (why : Why) → TransferDenied f act why → (event_by f act).denied ≡ Some why
 transfer-denied f act why d =
@@ -414,7 +423,7 @@ send-is f act why protocol com_id blocks dma looked h = by_taken (is_sent f prot
     by_taken true is g = by_frame is (frame_in looked.payload) refl g
 
 -- transfers
-moves-is : (f : Facts) (act : Act) (why : Why) (command : Command) (tag : Option ℕ) → IsLookedAt f act command tag → (op : Op) (lba count : ℕ) → Moves command tag op lba count → IsFree f tag → (make : Verdict → Event) (otherwise : Event)
+moves-is : (f : Facts) (act : Act) (why : Why) (command : Command) (tag : Option ℕ) → IsLookedAt f act command tag → (op : Op) (lba count : ℕ) → Reaches command tag op lba count → IsFree f tag → (make : Verdict → Event) (otherwise : Event)
     → otherwise.denied ≡ None → (make Serve).denied ≡ None → (make Shadow).denied ≡ None → ((w : Why) → (make (Denied w)).denied ≡ Some w) → (cond (on_drive f lba count) (make (verdict_on f op lba count)) otherwise).denied ≡ Some why → IsDenied f act why
 moves-is f act why command tag looked op lba count moves free make otherwise no_other no_serve no_shadow denies h = by_drive (on_drive f lba count) refl h
   where
@@ -440,6 +449,10 @@ queued-is f act why (ReadLog10 d) tag looked free h = absurd (nothing h)
 queued-is f act why Flush tag looked free h = absurd (nothing h)
 queued-is f act why (SetFeatures feature) tag looked free h = absurd (nothing h)
 queued-is f act why (ReadLog page dma) tag looked free h = absurd (nothing h)
+queued-is f act why (ReadPio l n) tag looked free h = absurd (nothing h)
+queued-is f act why (WritePio l n) tag looked free h = absurd (nothing h)
+queued-is f act why (Verify l n) tag looked free h = absurd (nothing h)
+queued-is f act why (Control control) tag looked free h = absurd (nothing h)
 
 received-none : (com_id blocks : ℕ) (x : Option (List ℕ)) → (received com_id blocks x).denied ≡ None
 received-none com_id blocks None = refl
@@ -479,6 +492,10 @@ unqueued-is f act why (ReadLog10 d) looked h = absurd (nothing h)
 unqueued-is f act why Flush looked h = absurd (nothing h)
 unqueued-is f act why (SetFeatures feature) looked h = absurd (nothing h)
 unqueued-is f act why (ReadLog page dma) looked h = absurd (nothing h)
+unqueued-is f act why (ReadPio l n) looked h = moves-is f act why (ReadPio l n) None looked Read l n read_pio tt (unqueued_by Nothing) (fails not_found None (Some BeyondDrive)) refl refl refl (λ w. refl) h
+unqueued-is f act why (WritePio l n) looked h = moves-is f act why (WritePio l n) None looked Write l n write_pio tt (unqueued_by (Wrote l looked.payload)) (fails not_found None (Some BeyondDrive)) refl refl refl (λ w. refl) h
+unqueued-is f act why (Verify l n) looked h = moves-is f act why (Verify l n) None looked Read l n verify tt (unqueued_by Nothing) (fails not_found None (Some BeyondDrive)) refl refl refl (λ w. refl) h
+unqueued-is f act why (Control control) looked h = absurd (nothing h)
 
 looked-is : (f : Facts) (act : Act) (why : Why) (command : Command) (tag : Option ℕ) (looked : IsLookedAt f act command tag) → (looked_event tcg f (h2d_at looked.fis) looked.payload command tag).denied ≡ Some why → IsDenied f act why
 looked-is f act why command None looked h = unqueued-is f act why command looked h

@@ -10,7 +10,7 @@ use Rattle.locking.specs.declared.range.Op.TheVariants.{Read, Write}
 use Rattle.trusted_cmds.specs.Commands.{is_queued, tag_of, sector_size}
 use Rattle.history.specs.Opening.{Origin}
 use Rattle.trusted_cmds.specs.declared.command.Command.{Command}
-use Rattle.trusted_cmds.specs.declared.command.Command.TheVariants.{ReadQueued, WriteQueued, ReadDma, WriteDma, Send, Receive, Identify, ReadLog10, Flush, SetFeatures, ReadLog}
+use Rattle.trusted_cmds.specs.declared.command.Command.TheVariants.{ReadQueued, WriteQueued, ReadDma, WriteDma, Send, Receive, Identify, ReadLog10, Flush, SetFeatures, ReadLog, ReadPio, WritePio, Verify, Control}
 use Rattle.trusted_cmds.specs.declared.command.CommandError.{CommandError}
 use Rattle.trusted_cmds.specs.Commands.{fault_of, read_unless}
 use Rattle.locking.specs.declared.ranges.Verdict.{Verdict}
@@ -26,7 +26,7 @@ use Rattle.history.specs.Answers.{is_holding}
 use Rattle.history.specs.History.{Act, Accept, Complete, Reset, SoftwareReset, event_in, event_of, log_of}
 use Rattle.history.specs.Looked.{IsLookedAtBy}
 use Rattle.history.specs.Tcg.{tcg}
-use Rattle.history.specs.DenialLaws.{Moves, read_queued, write_queued}
+use Rattle.history.specs.DenialLaws.{Reaches, read_queued, write_queued}
 use Rattle.history.specs.TransferLaws.{TagLaw, is_denied, WasAccepted, HeldLaw}
 use Rattle.history.proofs.Words.{latest-here, latest-skip}
 use Rattle.history.proofs.QuietProofs.{quiet-none}
@@ -89,6 +89,9 @@ unqueued-none items still f payload (Send p c b d) =
     none-if (resets f.rows (Send p c b d)) (did (WasReset programmatic)) (items.sends f p c b payload) refl
     (quiet-none (items.sends f p c b payload).deed (still f p c b payload))
 unqueued-none items still f payload (Receive p c b d) = none-if (asks_stack f.config.profile p c b) (did (InSession (StackTold c) Silent)) (receive_other f p c b) refl (none-if (is_received f p c b) (received c b (f.waiting c)) (refuses (unreceived p b)) (received-none c b (f.waiting c)) refl)
+unqueued-none items still f payload (ReadPio l n) = none-if (on_drive f l n) (unqueued_by Nothing (verdict_on f Read l n)) (fails not_found None (Some BeyondDrive)) (unqueued_by-none Nothing (verdict_on f Read l n) refl) refl
+unqueued-none items still f payload (WritePio l n) = none-if (on_drive f l n) (unqueued_by (Wrote l payload) (verdict_on f Write l n)) (fails not_found None (Some BeyondDrive)) (unqueued_by-none (Wrote l payload) (verdict_on f Write l n) refl) refl
+unqueued-none items still f payload (Verify l n) = none-if (on_drive f l n) (unqueued_by Nothing (verdict_on f Read l n)) (fails not_found None (Some BeyondDrive)) (unqueued_by-none Nothing (verdict_on f Read l n) refl) refl
 unqueued-none items still f payload _ = refl
 
 -- an act that holds a command
@@ -97,7 +100,7 @@ record HeldBy (items : Items) (f : Facts) (act : Act) (tag : ℕ) (h : HeldComma
   op : Op
   lba : ℕ
   count : ℕ
-  moves : Moves h.command (Some tag) op lba count
+  moves : Reaches h.command (Some tag) op lba count
   on_drive : on_drive f lba count ≡ true
   verdict : verdict_on f op lba count ≡ h.verdict
   served : is_denied h.verdict ≡ false
@@ -108,7 +111,7 @@ held-as items f act t tag x h same w = let is_tag : t ≡ tag = cc in let is_hel
 not-held : {d : Deed} {tag : ℕ} {h : HeldCommand} → is_holding d ≡ false → d ≡ OfQueue (Held tag h) → ⊥
 not-held g is = clash (ap is_holding is) g
 
-moved-is : (items : Items) (f : Facts) (act : Act) (tag t : ℕ) (h : HeldCommand) (c : Command) (op : Op) (lba count : ℕ) (r : RegH2d) → IsLookedAtBy items f act c (Some t) → Moves c (Some t) op lba count → (b : Bool) (v : Verdict) → on_drive f lba count ≡ b → verdict_on f op lba count ≡ v
+moved-is : (items : Items) (f : Facts) (act : Act) (tag t : ℕ) (h : HeldCommand) (c : Command) (op : Op) (lba count : ℕ) (r : RegH2d) → IsLookedAtBy items f act c (Some t) → Reaches c (Some t) op lba count → (b : Bool) (v : Verdict) → on_drive f lba count ≡ b → verdict_on f op lba count ≡ v
     → (cond b (queued_by r t c v) (fails_queue (Some t) not_found r None (Some BeyondDrive))).deed ≡ OfQueue (Held tag h) → HeldBy items f act tag h
 moved-is items f act tag t h c op lba count r looked moves false v drive is g = absurd (not-held refl g)
 moved-is items f act tag t h c op lba count r looked moves true (Denied why) drive is g = absurd (not-held refl g)
@@ -130,6 +133,10 @@ admitted-is items f act tag t h (ReadLog10 d) looked false g = absurd (not-held 
 admitted-is items f act tag t h Flush looked false g = absurd (not-held refl g)
 admitted-is items f act tag t h (SetFeatures feature) looked false g = absurd (not-held refl g)
 admitted-is items f act tag t h (ReadLog page dma) looked false g = absurd (not-held refl g)
+admitted-is items f act tag t h (ReadPio l n) looked false g = absurd (not-held refl g)
+admitted-is items f act tag t h (WritePio l n) looked false g = absurd (not-held refl g)
+admitted-is items f act tag t h (Verify l n) looked false g = absurd (not-held refl g)
+admitted-is items f act tag t h (Control control) looked false g = absurd (not-held refl g)
 
 while_failed-none : (r : Result (Command × Option ℕ) CommandError) → is_holding (while_failed r).deed ≡ false
 while_failed-none (Ok (ReadLog10 dma, tag)) = refl

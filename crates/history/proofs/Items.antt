@@ -17,7 +17,7 @@ use Rattle.tcg_tokens.specs.declared.error.TokenError.{TokenError}
 use Rattle.tcg_tokens.specs.Message.{Message, end_session}
 use Rattle.tcg_tokens.specs.Reading.{reading as message_in}
 use Rattle.trusted_cmds.specs.declared.command.Command.{Command}
-use Rattle.trusted_cmds.specs.declared.command.Command.TheVariants.{ReadQueued, WriteQueued, ReadDma, WriteDma, Send, Receive, ReadLog10}
+use Rattle.trusted_cmds.specs.declared.command.Command.TheVariants.{ReadQueued, WriteQueued, ReadDma, WriteDma, Send, Receive, ReadLog10, ReadPio, WritePio, Verify}
 use Rattle.trusted_cmds.specs.declared.command.CommandError.{CommandError}
 use Rattle.locking.specs.declared.ranges.Verdict.{Verdict}
 use Rattle.locking.specs.declared.ranges.Verdict.TheVariants.{Serve, Shadow, Denied}
@@ -156,6 +156,9 @@ unqueued-comes f payload (Send protocol com_id blocks dma) =
 unqueued-comes f payload (Receive protocol com_id blocks dma) =
     either f (asks_stack f.config.profile protocol com_id blocks) (did (InSession (StackTold com_id) Silent)) _ (of_stack f com_id false _ Silent refl)
     (either f (is_received f protocol com_id blocks) _ (refuses (unreceived protocol blocks)) (received-comes f com_id blocks (f.waiting com_id)) (no_item refl))
+unqueued-comes f payload (ReadPio lba count) = transfer-comes f Nothing Read lba count refl
+unqueued-comes f payload (WritePio lba count) = transfer-comes f (Wrote lba payload) Write lba count refl
+unqueued-comes f payload (Verify lba count) = transfer-comes f Nothing Read lba count refl
 unqueued-comes f payload _ = no_item refl
 
 queued_by-comes : (f : Facts) (h : RegH2d) (tag : ℕ) (c : Command) (v : Verdict) → Comes f (queued_by h tag c v)

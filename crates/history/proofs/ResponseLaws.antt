@@ -12,7 +12,7 @@ use Rattle.compacket.specs.declared.error.FrameError.{FrameError}
 use Rattle.compacket.specs.Frames.{Frame, reading as frame_in}
 use Rattle.tcg_tokens.specs.Reading.{reading as message_in}
 use Rattle.trusted_cmds.specs.declared.command.Command.{Command}
-use Rattle.trusted_cmds.specs.declared.command.Command.TheVariants.{ReadQueued, WriteQueued, ReadDma, WriteDma, Send, Receive, ReadLog10}
+use Rattle.trusted_cmds.specs.declared.command.Command.TheVariants.{ReadQueued, WriteQueued, ReadDma, WriteDma, Send, Receive, ReadLog10, ReadPio, WritePio, Verify}
 use Rattle.trusted_cmds.specs.declared.command.CommandError.{CommandError}
 use Rattle.locking.specs.declared.ranges.Verdict.{Verdict}
 use Rattle.locking.specs.declared.ranges.Verdict.TheVariants.{Serve, Shadow, Denied}
@@ -92,6 +92,9 @@ unqueued-on f payload (Send protocol com_id blocks dma) =
 unqueued-on f payload (Receive protocol com_id blocks dma) =
     either (asks_stack f.config.profile protocol com_id blocks) (did (InSession (StackTold com_id) Silent)) _ (λ is. refl)
     (either (is_received f protocol com_id blocks) _ (refuses (unreceived protocol blocks)) (λ is. received-on com_id blocks (f.waiting com_id)) refl)
+unqueued-on f payload (ReadPio lba count) = transfer-on f Nothing Read lba count refl
+unqueued-on f payload (WritePio lba count) = transfer-on f (Wrote lba payload) Write lba count refl
+unqueued-on f payload (Verify lba count) = transfer-on f Nothing Read lba count refl
 unqueued-on f payload _ = refl
 
 queued_by-on : (h : RegH2d) (tag : ℕ) (c : Command) (v : Verdict) → on_session (queued_by h tag c v).deed ≡ true

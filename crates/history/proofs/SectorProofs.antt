@@ -1,26 +1,23 @@
 -- What moves data lies on the drive, and so sectors behind the last one stay zeros.
-use Rattle.basics.specs.declared.profile.Profile.TheVariants.{Base, Field, Opal}
-use Rattle.basics.specs.declared.profile.Profile.{Profile}
-use Rattle.trusted_cmds.proofs.Spellings.{short-write}
-use Rattle.trusted_cmds.specs.Profiles.{reading_in, payload_length_in, field_payload_length, beside, read_or, short_sectors, short_write_dma}
-use Rattle.std.proofs.Common.{◌≡◌, ℕ, ◌*◌, ◌==◌, Bool, true, false, ◌&&◌, ◌||◌, not, List, [], ◌∷◌, Option, Some, None, refl, sym, ◌∙◌, ap, cond, ◌+◌, ◌≤◌, ◌/◌, subst, arith, eqb-true}
+use Rattle.trusted_cmds.specs.Profiles.{payload_length_in}
+use Rattle.std.proofs.Common.{◌≡◌, ℕ, ◌*◌, ◌==◌, Bool, true, false, ◌&&◌, ◌||◌, not, List, [], ◌∷◌, Option, Some, None, refl, sym, ◌∙◌, ap, cond, ◌+◌, ◌≤◌, ◌/◌, subst, arith}
 use Rattle.std.specs.Prelude.{is_some, nat_le, slice_index, length, Result, Ok, Err, unwrap_or, nat_lt, take, drop, ◌-◌}
 use Rattle.fis.specs.Types.{h2d_type}
 use Rattle.fis.specs.H2d.{h2d_at}
 use Rattle.fis.specs.declared.h2d.RegH2d.{RegH2d}
 use Rattle.locking.specs.declared.range.Op.{Op}
 use Rattle.locking.specs.declared.range.Op.TheVariants.{Read, Write}
-use Rattle.trusted_cmds.specs.Commands.{is_queued, tag_of, sector_size, blocks, trusted_send, trusted_send_dma, sectors, write_dma, read_queued, write_queued, payload_length, reading, trusted_receive_dma, read_log_dma, read_dma, protocol_of, sp_specific_of, fault_of, read_unless, is_send, is_receive, is_log_read, identify_device}
+use Rattle.trusted_cmds.specs.Commands.{is_queued, tag_of, sector_size}
 use Rattle.compacket.specs.declared.session.Session.{Session}
 use Rattle.compacket.specs.declared.error.FrameError.{FrameError}
 use Rattle.compacket.specs.Frames.{Frame, reading as frame_in}
 use Rattle.tcg_tokens.specs.Reading.{reading as message_in}
 use Rattle.trusted_cmds.specs.declared.command.Command.{Command}
-use Rattle.trusted_cmds.specs.declared.command.Command.TheVariants.{ReadQueued, WriteQueued, ReadDma, WriteDma, Send, Receive, ReadLog10, Identify, Flush, SetFeatures, ReadLog}
+use Rattle.trusted_cmds.specs.declared.command.Command.TheVariants.{ReadQueued, WriteQueued, ReadDma, WriteDma, Send, Receive, ReadLog10, Identify, Flush, SetFeatures, ReadLog, ReadPio, WritePio, Verify, Control}
 use Rattle.trusted_cmds.specs.declared.command.CommandError.{CommandError}
 use Rattle.locking.specs.declared.ranges.Verdict.{Verdict}
 use Rattle.locking.specs.declared.ranges.Verdict.TheVariants.{Serve, Shadow, Denied}
-use Rattle.sessions.specs.Deeds.{Begun, SessionDeed, Reverted, StackTold}
+use Rattle.sessions.specs.Deeds.{Begun, StackTold}
 use Rattle.trusted_cmds.specs.BlockSid.{is_block_sid, block_asked, is_blocked}
 use Rattle.device_data.specs.Discovery.{has_owner}
 use Rattle.history.specs.Opening.{Origin}
@@ -36,12 +33,13 @@ use Rattle.history.specs.Bounds.{IsFed, SectorLaw}
 use Rattle.std.proofs.lemmas.Bool.Decides.{nat_tests}
 use Rattle.shadow_mbr.specs.Stored.{zeros}
 use Rattle.history.specs.Answers.{expected}
-use Rattle.history.specs.DenialLaws.{Moves, read_queued as moves_read_queued, write_queued as moves_write_queued, read_dma as moves_read_dma, write_dma as moves_write_dma}
+use Rattle.history.specs.DenialLaws.{Reaches, read_queued as reaches_read_queued, write_queued as reaches_write_queued, read_dma as reaches_read_dma, write_dma as reaches_write_dma, read_pio as reaches_read_pio, write_pio as reaches_write_pio, verify as reaches_verify}
 use Rattle.history.specs.TransferLaws.{Writes, WasAccepted}
 use Rattle.history.proofs.QuietProofs.{tcg_quiet}
 use Rattle.history.proofs.HeldProofs.{held_law}
 use Rattle.history.proofs.WriteProofs.{write_law}
 use Rattle.history.proofs.Payloads.{payload-of-command}
+use Rattle.history.proofs.WriteSizes.{write-size}
 use Rattle.sp_cells.specs.Resets.{programmatic}
 use Rattle.audit.specs.declared.rules.rule.Rule.TheVariants.{NoCommand, Unreadable, Mixed, BeyondDrive, SidKept, NoFrame, Discarded, BrokenOff}
 use Rattle.compacket.specs.declared.session.Named.{Named}
@@ -104,6 +102,9 @@ unqueued-quiet f payload (Send protocol com_id blocks dma) =
     (either (is_sent f protocol com_id blocks) _ (refuses (unsent (is_some (f.waiting com_id)) protocol com_id blocks))
     (λ is. sent-quiet f com_id (broken_of f.config.profile payload) (frame_in payload) (middle (is_trusted protocol blocks) (is_session_com_id com_id) (is_free_for f com_id blocks) is)) refl)))
 unqueued-quiet f payload (Receive protocol com_id blocks dma) = either (asks_stack f.config.profile protocol com_id blocks) (did (InSession (StackTold com_id) Silent)) (receive_other f protocol com_id blocks) (λ is. refl) (either (is_received f protocol com_id blocks) _ (refuses (unreceived protocol blocks)) (λ is. received-quiet com_id blocks (f.waiting com_id)) refl)
+unqueued-quiet f payload (ReadPio lba count) = transfer-quiet f Nothing Read lba count refl
+unqueued-quiet f payload (WritePio lba count) = transfer-quiet f (Wrote lba payload) Write lba count refl
+unqueued-quiet f payload (Verify lba count) = transfer-quiet f Nothing Read lba count refl
 unqueued-quiet f payload _ = refl
 
 queued_by-quiet : (h : RegH2d) (tag : ℕ) (c : Command) (v : Verdict) → quiet (queued_by h tag c v).deed ≡ true
@@ -153,104 +154,26 @@ no-part place lba count sectors_on bytes size on le =
     ap (λ b. cond (nat_le lba place && b) (Some (take 512 (drop (512 * (place - lba)) bytes))) None) off
     ∙ ap (λ b. cond b (Some (take 512 (drop (512 * (place - lba)) bytes))) None) (and-false (nat_le lba place))
 
--- the command of an unqueued write
-record IsWrite (code field lba count : ℕ) : Type 0 where
-  code_is : (code == write_dma) ≡ true
-  count_is : count ≡ sectors field
-
-abbrev code_of : Command → ℕ
-code_of (WriteDma lba count) = 1
-code_of _ = 0
-
-abbrev count_of : Command → ℕ
-count_of (WriteDma lba count) = count
-count_of _ = 0
-
-zero-one : ◌≡◌ {A = ℕ} 0 1 → ⊥
-zero-one h = cc
-
-rest-other : (a b c d : Bool) (w x y z v : Command) → code_of w ≡ 0 → code_of x ≡ 0 → code_of y ≡ 0 → code_of z ≡ 0 → code_of v ≡ 0 → code_of (cond a w (cond b x (cond c y (cond d z v)))) ≡ 0
-rest-other true b c d w x y z v hw hx hy hz hv = hw
-rest-other false true c d w x y z v hw hx hy hz hv = hx
-rest-other false false true d w x y z v hw hx hy hz hv = hy
-rest-other false false false true w x y z v hw hx hy hz hv = hz
-rest-other false false false false w x y z v hw hx hy hz hv = hv
-
-is-write : (h : RegH2d) (a b c d : Bool) (rest : Command) (l n lba count : ℕ) → (h.command == write_dma) ≡ d → code_of rest ≡ 0
-    → cond a (ReadQueued l n) (cond b (WriteQueued l n) (cond c (ReadDma l (sectors h.count)) (cond d (WriteDma l (sectors h.count)) rest))) ≡ WriteDma lba count → IsWrite h.command h.count lba count
-is-write h true b c d rest l n lba count is other g = absurd (zero-one (ap code_of g))
-is-write h false true c d rest l n lba count is other g = absurd (zero-one (ap code_of g))
-is-write h false false true d rest l n lba count is other g = absurd (zero-one (ap code_of g))
-is-write h false false false true rest l n lba count is other g = record { code_is = is; count_is = sym (ap count_of g) }
-is-write h false false false false rest l n lba count is other g = absurd (zero-one (sym other ∙ ap code_of g))
-
-ok-command : {c d : Command} {x y : Option ℕ} → ◌≡◌ {A = Result (Command × Option ℕ) CommandError} (Ok (c, x)) (Ok (d, y)) → c ≡ d
-ok-command h = ap (λ (p : Command × Option ℕ). p.0) (pair h)
-  where
-    pair : {p q : Command × Option ℕ} → ◌≡◌ {A = Result (Command × Option ℕ) CommandError} (Ok p) (Ok q) → p ≡ q
-    pair g = cc
-
-read-write : (h : RegH2d) (lba count : ℕ) (x : Option CommandError) → read_unless x h ≡ Ok (WriteDma lba count, None) → IsWrite h.command h.count lba count
-read-write h lba count (Some e) g = absurd (clashes g)
-  where
-    clashes : {e : CommandError} {x : Command × Option ℕ} → ◌≡◌ {A = Result (Command × Option ℕ) CommandError} (Err e) (Ok x) → ⊥
-    clashes k = cc
-read-write h lba count None g =
-    let send : Command = Send (protocol_of h) (sp_specific_of h) (blocks h) (h.command == trusted_send_dma) in
-    let receive : Command = Receive (protocol_of h) (sp_specific_of h) (blocks h) (h.command == trusted_receive_dma) in
-    let log : Command = ReadLog10 (h.command == read_log_dma) in
-    is-write h (h.command == read_queued) (h.command == write_queued) (h.command == read_dma) (h.command == write_dma)
-    (cond (is_send h.command) send (cond (is_receive h.command) receive (cond (is_log_read h.command) log (cond (h.command == identify_device) Identify Flush))))
-    h.lba (sectors h.feature) lba count refl
-    (rest-other (is_send h.command) (is_receive h.command) (is_log_read h.command) (h.command == identify_device) send receive log Identify Flush refl refl refl refl refl)
-    (ok-command g)
-
-base-size : (h : RegH2d) (lba count : ℕ) → reading h ≡ Ok (WriteDma lba count, None) → payload_length h ≡ 512 * count
-base-size h lba count g =
-    let w = read-write h lba count (fault_of h) g in
-    ap (λ b. cond b (512 * sectors h.count) (cond (h.command == trusted_send || h.command == trusted_send_dma) (512 * blocks h) 0)) w.code_is ∙ ap (λ n. 512 * n) (sym w.count_is)
-
-no-short : (code : ℕ) → (code == write_dma) ≡ true → (code == short_write_dma) ≡ false
-no-short code is = ap (λ n. n == short_write_dma) (eqb-true code write_dma is)
-
-not-ok : {e : CommandError} {x : Command × Option ℕ} → ◌≡◌ {A = Result (Command × Option ℕ) CommandError} (Err e) (Ok x) → ⊥
-not-ok k = cc
-
-field-size : (h : RegH2d) (lba count : ℕ) (r : Result (Command × Option ℕ) CommandError) (more : Option Command) → reading h ≡ r → beside h ≡ more
-    → ◌≡◌ {A = Result (Command × Option ℕ) CommandError} (read_or r more) (Ok (WriteDma lba count, None))
-    → field_payload_length h ≡ 512 * count
-field-size h lba count (Ok x) more is m k =
-    let w = read-write h lba count (fault_of h) (is ∙ k) in
-    ap (λ b. cond b (512 * short_sectors h) (payload_length h)) (no-short h.command w.code_is)
-    ∙ base-size h lba count (is ∙ k)
-field-size h lba count (Err error) None is m k = absurd (not-ok k)
-field-size h lba count (Err error) (Some c) is m k =
-    let w = short-write h lba count (m ∙ ap (λ x. Some x) (ok-command k)) in
-    ap (λ b. cond b (512 * short_sectors h) (payload_length h)) w.code ∙ ap (λ n. 512 * n) w.sectors_are
-
-pub write-size : (p : Profile) (h : RegH2d) (lba count : ℕ) → reading_in p h ≡ Ok (WriteDma lba count, None)
-    → payload_length_in p h ≡ 512 * count
-write-size Base h lba count g = base-size h lba count g
-write-size Field h lba count g = field-size h lba count (reading h) (beside h) refl refl g
-write-size Opal h lba count g = field-size h lba count (reading h) (beside h) refl refl g
-
 wrote-none : (f : Facts) (act : Act) (place lba : ℕ) (bytes : List ℕ) → IsFed f act → f.config.sectors ≤ place → (event_by f act).deed ≡ Wrote lba bytes → part_of place lba bytes ≡ None
 wrote-none f act place lba bytes fed le g =
     let w : Writes tcg f act lba bytes = write_law tcg tcg_quiet f act lba bytes g in
     let size : length w.looked.payload ≡ payload_length_in f.config.profile (h2d_at w.looked.fis) =
     subst (IsFed f) w.looked.accepts fed ∙ payload-of-command f.config w.looked.fis w.looked.kind in
-    no-part place lba w.count f.config.sectors bytes (ap length w.payload ∙ size ∙ write-size f.config.profile (h2d_at w.looked.fis) lba w.count w.looked.reads) w.on_drive le
+    no-part place lba w.count f.config.sectors bytes (ap length w.payload ∙ size ∙ write-size f.config.profile (h2d_at w.looked.fis) w.command lba w.count w.writes w.looked.reads) w.on_drive le
 
 -- the transfer of a held write
 record Is (l n lba count : ℕ) : Type 0 where
   first : lba ≡ l
   size : count ≡ n
 
-moved-same : (l n : ℕ) (c : Command) (t : Option ℕ) (op : Op) (lba count : ℕ) → Moves c t op lba count → c ≡ WriteQueued l n → Is l n lba count
-moved-same l n c t op lba count (moves_read_queued {lba = x} {count = y} {tag = z}) g = cc
-moved-same l n c t op lba count (moves_write_queued {lba = x} {count = y} {tag = z}) g = record { first = cc; size = cc }
-moved-same l n c t op lba count (moves_read_dma {lba = x} {count = y}) g = cc
-moved-same l n c t op lba count (moves_write_dma {lba = x} {count = y}) g = cc
+moved-same : (l n : ℕ) (c : Command) (t : Option ℕ) (op : Op) (lba count : ℕ) → Reaches c t op lba count → c ≡ WriteQueued l n → Is l n lba count
+moved-same l n c t op lba count (reaches_read_queued {lba = x} {count = y} {tag = z}) g = cc
+moved-same l n c t op lba count (reaches_write_queued {lba = x} {count = y} {tag = z}) g = record { first = cc; size = cc }
+moved-same l n c t op lba count (reaches_read_dma {lba = x} {count = y}) g = cc
+moved-same l n c t op lba count (reaches_write_dma {lba = x} {count = y}) g = cc
+moved-same l n c t op lba count (reaches_read_pio {lba = x} {count = y}) g = cc
+moved-same l n c t op lba count (reaches_write_pio {lba = x} {count = y}) g = cc
+moved-same l n c t op lba count (reaches_verify {lba = x} {count = y}) g = cc
 
 held-fits : (o : Origin) (acts : List Act) (tag l n : ℕ) (h : HeldCommand) → (facts o (log o acts)).held tag ≡ Some h → h.command ≡ WriteQueued l n → nat_le (l + n) o.tables.config.sectors ≡ true
 held-fits o acts tag l n h is command =
@@ -307,6 +230,10 @@ completed-left o acts tag place payload (Some h) is size le rest = by_command h.
     by_command Flush command = rest
     by_command (SetFeatures feature) command = rest
     by_command (ReadLog page dma) command = rest
+    by_command (ReadPio l n) command = rest
+    by_command (WritePio l n) command = rest
+    by_command (Verify l n) command = rest
+    by_command (Control control) command = rest
 
 accept-quiet : (f : Facts) (fis payload : List ℕ) → quiet (event_by f (Accept fis payload)).deed ≡ true
 accept-quiet f fis payload = either (slice_index fis 0 == h2d_type) (commanded f (h2d_at fis) payload) (refuses NoCommand) (λ is. commanded-quiet f (h2d_at fis) payload) refl

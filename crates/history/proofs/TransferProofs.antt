@@ -18,7 +18,7 @@ use Rattle.history.specs.Items.{Items}
 use Rattle.history.specs.Facts.{Facts}
 use Rattle.history.specs.Decisions.{not_found, aborted, fails, fails_queue, on_drive, ranges_in_force, verdict_on, queued_by, admitted, unqueued_by}
 use Rattle.history.specs.History.{event_in}
-use Rattle.history.specs.DenialLaws.{Moves, read_queued, write_queued, read_dma, write_dma, IsFree}
+use Rattle.history.specs.DenialLaws.{Reaches, read_queued, write_queued, read_dma, write_dma, read_pio, write_pio, verify, IsFree}
 use Rattle.history.specs.TransferLaws.{is_denied, IsPermitted, IsReason, VerdictLaw, ServiceLaw}
 use Rattle.history.proofs.MethodProofs.{looked_event, looked_law}
 use Rattle.audit.specs.declared.rules.rule.Rule.TheVariants.{BeyondDrive}
@@ -72,7 +72,7 @@ unqueued-failed d Serve = refl
 unqueued-failed d Shadow = refl
 unqueued-failed d (Denied why) = refl
 
-answered : (items : Items) (f : Facts) (h : RegH2d) (payload : List ℕ) (command : Command) (tag : Option ℕ) (op : Op) (lba count : ℕ) → Moves command tag op lba count → IsFree f tag → on_drive f lba count ≡ true → (looked_event items f h payload command tag).failed ≡ failed_by (verdict_on f op lba count)
+answered : (items : Items) (f : Facts) (h : RegH2d) (payload : List ℕ) (command : Command) (tag : Option ℕ) (op : Op) (lba count : ℕ) → Reaches command tag op lba count → IsFree f tag → on_drive f lba count ≡ true → (looked_event items f h payload command tag).failed ≡ failed_by (verdict_on f op lba count)
 answered items f h payload c tag op lba count (read_queued {lba = l} {count = n} {tag = t}) free drive =
     ap (λ x. (admitted f h t (ReadQueued l n) (is_some x)).failed) free
     ∙ ap (λ b. (cond b (queued_by h t (ReadQueued l n) (verdict_on f Read l n)) (fails_queue (Some t) not_found h None (Some BeyondDrive))).failed) drive
@@ -85,6 +85,12 @@ answered items f h payload c tag op lba count (read_dma {lba = l} {count = n}) f
     ap (λ b. (cond b (unqueued_by Nothing (verdict_on f Read l n)) (fails not_found None (Some BeyondDrive))).failed) drive ∙ unqueued-failed Nothing (verdict_on f Read l n)
 answered items f h payload c tag op lba count (write_dma {lba = l} {count = n}) free drive =
     ap (λ b. (cond b (unqueued_by (Wrote l payload) (verdict_on f Write l n)) (fails not_found None (Some BeyondDrive))).failed) drive ∙ unqueued-failed (Wrote l payload) (verdict_on f Write l n)
+answered items f h payload c tag op lba count (read_pio {lba = l} {count = n}) free drive =
+    ap (λ b. (cond b (unqueued_by Nothing (verdict_on f Read l n)) (fails not_found None (Some BeyondDrive))).failed) drive ∙ unqueued-failed Nothing (verdict_on f Read l n)
+answered items f h payload c tag op lba count (write_pio {lba = l} {count = n}) free drive =
+    ap (λ b. (cond b (unqueued_by (Wrote l payload) (verdict_on f Write l n)) (fails not_found None (Some BeyondDrive))).failed) drive ∙ unqueued-failed (Wrote l payload) (verdict_on f Write l n)
+answered items f h payload c tag op lba count (verify {lba = l} {count = n}) free drive =
+    ap (λ b. (cond b (unqueued_by Nothing (verdict_on f Read l n)) (fails not_found None (Some BeyondDrive))).failed) drive ∙ unqueued-failed Nothing (verdict_on f Read l n)
 
 failed-none : (v : Verdict) → failed_by v ≡ None → is_denied v ≡ false
 failed-none Serve h = refl

@@ -7,7 +7,7 @@ use Rattle.fis.specs.declared.h2d.RegH2d.{RegH2d}
 use Rattle.locking.specs.declared.range.Op.TheVariants.{Read, Write}
 use Rattle.trusted_cmds.specs.Commands.{is_queued, tag_of, sector_size}
 use Rattle.trusted_cmds.specs.declared.command.Command.{Command}
-use Rattle.trusted_cmds.specs.declared.command.Command.TheVariants.{ReadQueued, WriteQueued, ReadDma, WriteDma, Send, Receive, Identify, ReadLog10, Flush, SetFeatures, ReadLog}
+use Rattle.trusted_cmds.specs.declared.command.Command.TheVariants.{ReadQueued, WriteQueued, ReadDma, WriteDma, Send, Receive, Identify, ReadLog10, Flush, SetFeatures, ReadLog, ReadPio, WritePio, Verify, Control}
 use Rattle.trusted_cmds.specs.declared.command.CommandError.{CommandError}
 use Rattle.locking.specs.declared.ranges.Verdict.{Verdict}
 use Rattle.locking.specs.declared.ranges.Verdict.TheVariants.{Serve, Shadow, Denied}
@@ -19,6 +19,7 @@ use Rattle.history.specs.Items.{Items}
 use Rattle.history.specs.Quiet.{is_quiet, IsQuiet}
 use Rattle.history.specs.History.{Act, Accept, Complete, Reset, SoftwareReset, event_in}
 use Rattle.history.specs.Looked.{IsLookedAtBy}
+use Rattle.history.specs.DenialLaws.{Reaches, write_dma, write_pio}
 use Rattle.history.specs.TransferLaws.{IsPermitted, is_denied, Writes, WriteLaw}
 use Rattle.history.proofs.TransferProofs.{verdict_law}
 use Rattle.sp_cells.specs.Resets.{programmatic}
@@ -63,20 +64,20 @@ abbrev moved : Deed → ℕ × List ℕ
 moved (Wrote lba bytes) = (lba, bytes)
 moved _ = (0, [])
 
-written-as : (items : Items) (f : Facts) (act : Act) (l lba n : ℕ) (bytes : List ℕ) (looked : IsLookedAtBy items f act (WriteDma l n) None) → on_drive f l n ≡ true → IsPermitted (ranges_in_force f) Write l n → Wrote l looked.payload ≡ Wrote lba bytes → Writes items f act lba bytes
-written-as items f act l lba n bytes looked drive may same =
+written-as : (items : Items) (f : Facts) (act : Act) (l lba n : ℕ) (bytes : List ℕ) (c : Command) → Reaches c None Write l n → (looked : IsLookedAtBy items f act c None) → on_drive f l n ≡ true → IsPermitted (ranges_in_force f) Write l n → Wrote l looked.payload ≡ Wrote lba bytes → Writes items f act lba bytes
+written-as items f act l lba n bytes c writes looked drive may same =
     let is_lba : l ≡ lba = ap (λ (p : ℕ × List ℕ). p.0) (ap moved same) in
-    let made : Writes items f act l looked.payload = record { count = n; looked = looked; payload = refl; on_drive = drive; permitted = may } in
+    let made : Writes items f act l looked.payload = record { count = n; command = c; writes = writes; looked = looked; payload = refl; on_drive = drive; permitted = may } in
     subst (λ x. Writes items f act x bytes) is_lba (subst (Writes items f act l) (ap (λ (p : ℕ × List ℕ). p.1) (ap moved same)) made)
 
-served-is : (items : Items) (f : Facts) (act : Act) (l n lba : ℕ) (bytes : List ℕ) (looked : IsLookedAtBy items f act (WriteDma l n) None) → (b : Bool) (v : Verdict) → on_drive f l n ≡ b → verdict_on f Write l n ≡ v → (cond b (unqueued_by (Wrote l looked.payload) v) (fails not_found None (Some BeyondDrive))).deed ≡ Wrote lba bytes → Writes items f act lba bytes
-served-is items f act l n lba bytes looked false v drive is g = absurd (not-write refl g)
-served-is items f act l n lba bytes looked true (Denied why) drive is g = absurd (not-write refl g)
-served-is items f act l n lba bytes looked true Serve drive is g = written-as items f act l lba n bytes looked drive ((verdict_law (ranges_in_force f) Write l n).served.0 (ap is_denied is)) g
-served-is items f act l n lba bytes looked true Shadow drive is g = written-as items f act l lba n bytes looked drive ((verdict_law (ranges_in_force f) Write l n).served.0 (ap is_denied is)) g
+served-is : (items : Items) (f : Facts) (act : Act) (l n lba : ℕ) (bytes : List ℕ) (c : Command) → Reaches c None Write l n → (looked : IsLookedAtBy items f act c None) → (b : Bool) (v : Verdict) → on_drive f l n ≡ b → verdict_on f Write l n ≡ v → (cond b (unqueued_by (Wrote l looked.payload) v) (fails not_found None (Some BeyondDrive))).deed ≡ Wrote lba bytes → Writes items f act lba bytes
+served-is items f act l n lba bytes c writes looked false v drive is g = absurd (not-write refl g)
+served-is items f act l n lba bytes c writes looked true (Denied why) drive is g = absurd (not-write refl g)
+served-is items f act l n lba bytes c writes looked true Serve drive is g = written-as items f act l lba n bytes c writes looked drive ((verdict_law (ranges_in_force f) Write l n).served.0 (ap is_denied is)) g
+served-is items f act l n lba bytes c writes looked true Shadow drive is g = written-as items f act l lba n bytes c writes looked drive ((verdict_law (ranges_in_force f) Write l n).served.0 (ap is_denied is)) g
 
 unqueued-is : (items : Items) (still : IsQuiet items) (f : Facts) (act : Act) (lba : ℕ) (bytes : List ℕ) (c : Command) (looked : IsLookedAtBy items f act c None) → (unqueued_of items f looked.payload c).deed ≡ Wrote lba bytes → Writes items f act lba bytes
-unqueued-is items still f act lba bytes (WriteDma l n) looked g = served-is items f act l n lba bytes looked (on_drive f l n) (verdict_on f Write l n) refl refl g
+unqueued-is items still f act lba bytes (WriteDma l n) looked g = served-is items f act l n lba bytes (WriteDma l n) write_dma looked (on_drive f l n) (verdict_on f Write l n) refl refl g
 unqueued-is items still f act lba bytes (ReadDma l n) looked g = absurd (not-write (none-if (on_drive f l n) (unqueued_by Nothing (verdict_on f Read l n)) (fails not_found None (Some BeyondDrive)) (unqueued_by-none Nothing (verdict_on f Read l n) refl) refl) g)
 unqueued-is items still f act lba bytes (Send p c b d) looked g =
     absurd (not-write (none-if (resets f.rows (Send p c b d)) (did (WasReset programmatic)) (items.sends f p c b looked.payload) refl
@@ -89,6 +90,10 @@ unqueued-is items still f act lba bytes (ReadLog10 d) looked g = absurd (not-wri
 unqueued-is items still f act lba bytes Flush looked g = absurd (not-write refl g)
 unqueued-is items still f act lba bytes (SetFeatures feature) looked g = absurd (not-write refl g)
 unqueued-is items still f act lba bytes (ReadLog page dma) looked g = absurd (not-write refl g)
+unqueued-is items still f act lba bytes (ReadPio l n) looked g = absurd (not-write (none-if (on_drive f l n) (unqueued_by Nothing (verdict_on f Read l n)) (fails not_found None (Some BeyondDrive)) (unqueued_by-none Nothing (verdict_on f Read l n) refl) refl) g)
+unqueued-is items still f act lba bytes (WritePio l n) looked g = served-is items f act l n lba bytes (WritePio l n) write_pio looked (on_drive f l n) (verdict_on f Write l n) refl refl g
+unqueued-is items still f act lba bytes (Verify l n) looked g = absurd (not-write (none-if (on_drive f l n) (unqueued_by Nothing (verdict_on f Read l n)) (fails not_found None (Some BeyondDrive)) (unqueued_by-none Nothing (verdict_on f Read l n) refl) refl) g)
+unqueued-is items still f act lba bytes (Control control) looked g = absurd (not-write refl g)
 
 queued-none : (h : RegH2d) (tag : ℕ) (c : Command) (b : Bool) (v : Verdict) → is_write (cond b (queued_by h tag c v) (fails_queue (Some tag) not_found h None (Some BeyondDrive))).deed ≡ false
 queued-none h tag c false v = refl

@@ -12,7 +12,8 @@ use Rattle.locking.specs.declared.range.Op.TheVariants.{Read, Write}
 use Rattle.locking.specs.declared.ranges.Verdict.{Verdict}
 use Rattle.locking.specs.declared.ranges.Verdict.TheVariants.{Serve, Shadow, Denied}
 use Rattle.trusted_cmds.specs.declared.command.Command.{Command}
-use Rattle.trusted_cmds.specs.declared.command.Command.TheVariants.{ReadQueued, WriteQueued, ReadDma, WriteDma, Send, Receive, Identify, ReadLog10, Flush, SetFeatures, ReadLog}
+use Rattle.trusted_cmds.specs.declared.control.Control.TheVariants.{SetMultiple, Idle, CheckPowerMode, Diagnose}
+use Rattle.trusted_cmds.specs.declared.command.Command.TheVariants.{ReadQueued, WriteQueued, ReadDma, WriteDma, Send, Receive, Identify, ReadLog10, Flush, SetFeatures, ReadLog, ReadPio, WritePio, Verify, Control}
 use Rattle.trusted_cmds.specs.declared.command.CommandError.{CommandError}
 use Rattle.trusted_cmds.specs.Commands.{fis_of, tag_with, sector_size, is_queued as is_queued_code}
 use Rattle.history.specs.Opening.{Origin}
@@ -52,6 +53,10 @@ commands_of (ReadLog10 dma) tag = refl
 commands_of Flush tag = refl
 commands_of (SetFeatures feature) tag = refl
 commands_of (ReadLog page dma) tag = refl
+commands_of (ReadPio lba count) tag = refl
+commands_of (WritePio lba count) tag = refl
+commands_of (Verify lba count) tag = refl
+commands_of (Control control) tag = refl
 
 code_of : (command : Command) (tag : ℕ)
     → is_queued_code (fis_of command tag).command ≡ is_queued_command command
@@ -70,6 +75,13 @@ code_of Flush tag = refl
 code_of (SetFeatures feature) tag = refl
 code_of (ReadLog page true) tag = refl
 code_of (ReadLog page false) tag = refl
+code_of (ReadPio lba count) tag = refl
+code_of (WritePio lba count) tag = refl
+code_of (Verify lba count) tag = refl
+code_of (Control SetMultiple) tag = refl
+code_of (Control Idle) tag = refl
+code_of (Control CheckPowerMode) tag = refl
+code_of (Control Diagnose) tag = refl
 
 -- the drive reads the command from the bytes
 pub reads_bytes : (items : Items) (still : IsForPorts items) (config : Config) (command : Command) (tag : ℕ)
@@ -187,6 +199,10 @@ known-either items f h bytes (ReadLog10 dma) tag queued free = absurd cc
 known-either items f h bytes Flush tag queued free = absurd cc
 known-either items f h bytes (SetFeatures feature) tag queued free = absurd cc
 known-either items f h bytes (ReadLog page dma) tag queued free = absurd cc
+known-either items f h bytes (ReadPio lba count) tag queued free = absurd cc
+known-either items f h bytes (WritePio lba count) tag queued free = absurd cc
+known-either items f h bytes (Verify lba count) tag queued free = absurd cc
+known-either items f h bytes (Control control) tag queued free = absurd cc
 
 -- no data come with a tag
 no-data : (items : Items) (f : Facts) (command : Command) (tag : ℕ) → is_queued_command command ≡ true
@@ -202,6 +218,10 @@ no-data items f (ReadLog10 dma) tag queued = absurd cc
 no-data items f Flush tag queued = absurd cc
 no-data items f (SetFeatures feature) tag queued = absurd cc
 no-data items f (ReadLog page dma) tag queued = absurd cc
+no-data items f (ReadPio lba count) tag queued = absurd cc
+no-data items f (WritePio lba count) tag queued = absurd cc
+no-data items f (Verify lba count) tag queued = absurd cc
+no-data items f (Control control) tag queued = absurd cc
 
 -- The FIS of a queued command, on a free tag.
 pub queued_effect : (items : Items) (still : IsForPorts items) (o : Origin) (past : List Event) (command : Command) (tag : ℕ) (bytes : List ℕ)
@@ -332,6 +352,11 @@ unqueued-quiet items still f payload (ReadLog10 dma) = refl
 unqueued-quiet items still f payload Flush = refl
 unqueued-quiet items still f payload (SetFeatures feature) = refl
 unqueued-quiet items still f payload (ReadLog page dma) = refl
+unqueued-quiet items still f payload (ReadPio lba count) = transfer-quiet f Nothing Read lba count refl
+unqueued-quiet items still f payload (WritePio lba count) =
+    transfer-quiet f (Wrote lba payload) Write lba count refl
+unqueued-quiet items still f payload (Verify lba count) = transfer-quiet f Nothing Read lba count refl
+unqueued-quiet items still f payload (Control control) = refl
 unqueued-quiet items still f payload (ReadQueued lba count) = refl
 unqueued-quiet items still f payload (WriteQueued lba count) = refl
 
@@ -385,6 +410,10 @@ known-unqueued items f h bytes (ReadLog10 dma) tag unqueued = refl
 known-unqueued items f h bytes Flush tag unqueued = refl
 known-unqueued items f h bytes (SetFeatures feature) tag unqueued = refl
 known-unqueued items f h bytes (ReadLog page dma) tag unqueued = refl
+known-unqueued items f h bytes (ReadPio lba count) tag unqueued = refl
+known-unqueued items f h bytes (WritePio lba count) tag unqueued = refl
+known-unqueued items f h bytes (Verify lba count) tag unqueued = refl
+known-unqueued items f h bytes (Control control) tag unqueued = refl
 
 served-fis : (command : Command) (tag : ℕ) → is_queued_command command ≡ false → is_of_request command ≡ true
     → fises_read (Ok (read_as command, tag_with command tag)) ≡ executed_fis command None ∷ []
@@ -401,6 +430,10 @@ served-fis (ReadLog10 dma) tag unqueued asked = absurd cc
 served-fis Flush tag unqueued asked = refl
 served-fis (SetFeatures feature) tag unqueued asked = absurd cc
 served-fis (ReadLog page dma) tag unqueued asked = absurd cc
+served-fis (ReadPio lba count) tag unqueued asked = absurd cc
+served-fis (WritePio lba count) tag unqueued asked = absurd cc
+served-fis (Verify lba count) tag unqueued asked = absurd cc
+served-fis (Control control) tag unqueued asked = absurd cc
 
 failed-fis : (command : Command) (error : ℕ)
     → answer_fis true errored error ∷ [] ≡ executed_fis command (Some error) ∷ []
@@ -415,6 +448,10 @@ failed-fis (ReadLog10 dma) error = refl
 failed-fis Flush error = refl
 failed-fis (SetFeatures feature) error = refl
 failed-fis (ReadLog page dma) error = refl
+failed-fis (ReadPio lba count) error = refl
+failed-fis (WritePio lba count) error = refl
+failed-fis (Verify lba count) error = refl
+failed-fis (Control control) error = refl
 
 read-data : (f : Facts) (command : Command) (tag : ℕ) → is_queued_command command ≡ false
     → ((s : ℕ) → length (f.sector s) ≡ 512)
@@ -432,6 +469,10 @@ read-data f (ReadLog10 dma) tag unqueued whole = data-fits f (ReadLog10 dma) who
 read-data f Flush tag unqueued whole = data-fits f Flush whole
 read-data f (SetFeatures feature) tag unqueued whole = data-fits f (SetFeatures feature) whole
 read-data f (ReadLog page dma) tag unqueued whole = data-fits f (ReadLog page dma) whole
+read-data f (ReadPio lba count) tag unqueued whole = data-fits f (ReadPio lba count) whole
+read-data f (WritePio lba count) tag unqueued whole = data-fits f (WritePio lba count) whole
+read-data f (Verify lba count) tag unqueued whole = data-fits f (Verify lba count) whole
+read-data f (Control control) tag unqueued whole = data-fits f (Control control) whole
 
 fises-by : (command : Command) (fis : List ℕ) (read : List Fis) (d : Deed) (e : Option ℕ)
     → is_holding d ≡ false → read ≡ executed_fis command None ∷ []

@@ -4,7 +4,7 @@ use Rattle.sp_cells.specs.Config.{Config}
 use Rattle.std.proofs.Common.{◌≡◌, ◌∙◌, ℕ, Bool, true, false, List, [], ◌∷◌, length, if◌then◌else◌, Option, Some, None, refl, sym, ap, subst}
 use Rattle.std.specs.Prelude.{option_map}
 use Rattle.trusted_cmds.specs.declared.command.Command.{Command}
-use Rattle.trusted_cmds.specs.declared.command.Command.TheVariants.{ReadQueued, WriteQueued, ReadDma, WriteDma, Send, Receive, Identify, ReadLog10, Flush, SetFeatures, ReadLog}
+use Rattle.trusted_cmds.specs.declared.command.Command.TheVariants.{ReadQueued, WriteQueued, ReadDma, WriteDma, Send, Receive, Identify, ReadLog10, Flush, SetFeatures, ReadLog, ReadPio, WritePio, Verify, Control}
 use Rattle.history.specs.Opening.{Origin}
 use Rattle.history.specs.Events.{Event}
 use Rattle.history.specs.Facts.{Facts, facts}
@@ -21,7 +21,7 @@ use Rattle.port_history.specs.Stages.{is_queued_command, put_at}
 use Rattle.port_history.specs.Steps.{effect_by, trace, events, event_before, stage, failed, payload, acceptance, accept_payload, act_of, act_before, acts}
 use Rattle.port_history.specs.Refusals.{IsLawful}
 use Rattle.port_history.specs.Laws.{FedLaw}
-use Rattle.port_history.proofs.Fises.{fis_brings, brought, payload_is}
+use Rattle.port_history.proofs.Fises.{any_profile, fis_brings, brought, payload_is}
 use Rattle.port_history.proofs.Tests.{none_is, none_holds, tests_of, issued_is, accepted_is}
 use Rattle.port_history.proofs.Kept.{IsFit}
 use Rattle.port_history.proofs.KeptLaw.{kept, fit_issued, fit_accepted, accepted_held}
@@ -66,8 +66,7 @@ pub accept_fed : (config : Config) (put : Put) (u : ℕ) (bytes : List ℕ) → 
     → length (accept_payload put bytes) ≡ payload_of config (command_fis put.command u)
 accept_fed config put u bytes fit =
     length-brought (is_queued_command put.command) put.command bytes fit.brings
-    ∙ sym (fis_brings config put.command u
-    ∙ payload_is put.command u fit.sized.counted fit.sized.most)
+    ∙ sym (fis_brings config put.command u ∙ payload_is config.profile put.command u fit.sized)
 
 -- what comes with the completion of one
 pub expected-brought : (command : Command) → is_queued_command command ≡ true
@@ -83,6 +82,10 @@ expected-brought (ReadLog10 dma) queued = absurd cc
 expected-brought Flush queued = absurd cc
 expected-brought (SetFeatures feature) queued = absurd cc
 expected-brought (ReadLog page dma) queued = absurd cc
+expected-brought (ReadPio lba count) queued = absurd cc
+expected-brought (WritePio lba count) queued = absurd cc
+expected-brought (Verify lba count) queued = absurd cc
+expected-brought (Control control) queued = absurd cc
 
 -- The act of a lawful step brings what its command wants.
 pub step_fed : (o : Origin) (step : Step) (before : List Step) → IsLawful o (step ∷ before)
@@ -105,7 +108,9 @@ step_fed o (steps.Complete u) before h =
     let here = fit_accepted ms u p.0 k p.1 in
     here.fit.brings ∙ sym (expected-brought p.0.command here.queued)
     ∙ sym (ap expected_by x.2) ∙ sym (ap expected x.1)
-step_fed o steps.Recover before h = sym (fis_brings o.tables.config (ReadLog10 true) 0)
+step_fed o steps.Recover before h =
+    sym (fis_brings o.tables.config (ReadLog10 true) 0
+    ∙ any_profile o.tables.config.profile (ReadLog10 true) 0 refl)
 step_fed o (steps.Reset client kind) before h = tt
 step_fed o (steps.Take client u) before h = tt
 

@@ -1,9 +1,10 @@
 -- The bytes of the FISes that the port sends, and what the drive reads in them.
 use Rattle.basics.specs.declared.profile.Profile.TheVariants.{Base, Field, Opal}
 use Rattle.basics.specs.declared.profile.Profile.{Profile}
-use Rattle.trusted_cmds.specs.Profiles.{payload_length_in, short_write_dma, short_sectors}
+use Rattle.trusted_cmds.specs.Profiles.{payload_length_in, field_payload_length, short_write_dma, short_sectors}
+use Rattle.trusted_cmds.specs.General.{is_general, writes_more, sectors_of}
 use Rattle.sp_cells.specs.Config.{Config}
-use Rattle.port_history.specs.Laws.{read_as, IsSized}
+use Rattle.port_history.specs.Laws.{is_of_request, read_as, IsSized}
 use Rattle.std.proofs.Common.{◌≡◌, ◌∙◌, ◌+◌, ◌*◌, ◌/◌, ◌%◌, ◌^◌, ◌<◌, ◌≤◌, ◌==◌, ℕ, true, false, List, [], ◌∷◌, length, slice_index, if◌then◌else◌, None, refl, ap, arith, inl, inr, cond, Bool, sym}
 use Rattle.std.specs.Prelude.{Ok}
 use Rattle.std.proofs.lemmas.Bool.{cases_eq, ne_eqb}
@@ -11,11 +12,11 @@ use Rattle.std.proofs.Math.Nat.{mod-add-div}
 use Rattle.fis.specs.H2d.{h2d_at, IsH2dSpelling}
 use Rattle.fis.specs.declared.h2d.RegH2d.{RegH2d}
 use Rattle.trusted_cmds.specs.declared.command.Command.{Command}
-use Rattle.trusted_cmds.specs.declared.command.Command.TheVariants.{ReadQueued, WriteQueued, ReadDma, WriteDma, Send, Receive, Identify, ReadLog10, Flush, SetFeatures, ReadLog}
-use Rattle.trusted_cmds.specs.Commands.{reading, fis_with, fis_of, tag_with, payload_length, sectors, sectors_field, most_sectors, sector_size, IsCounted}
+use Rattle.trusted_cmds.specs.declared.command.Command.TheVariants.{ReadQueued, WriteQueued, ReadDma, WriteDma, Send, Receive, Identify, ReadLog10, Flush, SetFeatures, ReadLog, ReadPio, WritePio, Verify, Control}
+use Rattle.trusted_cmds.specs.Commands.{reading, fis_with, fis_of, tag_with, payload_length, sectors, sectors_field, most_sectors, sector_size}
 use Rattle.history.specs.Answers.{payload_of}
 use Rattle.history.proofs.Payloads.{payload-of-command}
-use Rattle.port_history.specs.Requests.{fis_bytes, command_fis, log_fis, to_device, blocks_moved, bytes_moved}
+use Rattle.port_history.specs.Requests.{fis_bytes, command_fis, log_fis, to_device, bytes_moved}
 use Rattle.port_history.specs.Stages.{is_queued_command}
 
 -- a list of 20 bytes
@@ -122,6 +123,10 @@ fis_back (ReadLog10 dma) tag = with-back _ _ _ _ _
 fis_back Flush tag = with-back _ _ _ _ _
 fis_back (SetFeatures feature) tag = with-back _ _ _ _ _
 fis_back (ReadLog page dma) tag = with-back _ _ _ _ _
+fis_back (ReadPio lba count) tag = with-back _ _ _ _ _
+fis_back (WritePio lba count) tag = with-back _ _ _ _ _
+fis_back (Verify lba count) tag = with-back _ _ _ _ _
+fis_back (Control control) tag = with-back _ _ _ _ _
 
 -- a count of sectors, from its field
 sectors-back : (count : ℕ) → 0 < count → count ≤ most_sectors
@@ -171,6 +176,10 @@ reads (ReadLog10 false) tag lt sized = refl
 reads Flush tag lt sized = refl
 reads (SetFeatures feature) tag lt sized = absurd (unasked sized.asked)
 reads (ReadLog page dma) tag lt sized = absurd (unasked sized.asked)
+reads (ReadPio lba count) tag lt sized = absurd (unasked sized.asked)
+reads (WritePio lba count) tag lt sized = absurd (unasked sized.asked)
+reads (Verify lba count) tag lt sized = absurd (unasked sized.asked)
+reads (Control control) tag lt sized = absurd (unasked sized.asked)
 
 pub read_as-queued : (command : Command) → is_queued_command (read_as command) ≡ is_queued_command command
 read_as-queued (ReadQueued lba count) = refl
@@ -184,6 +193,10 @@ read_as-queued (ReadLog10 dma) = refl
 read_as-queued Flush = refl
 read_as-queued (SetFeatures feature) = refl
 read_as-queued (ReadLog page dma) = refl
+read_as-queued (ReadPio lba count) = refl
+read_as-queued (WritePio lba count) = refl
+read_as-queued (Verify lba count) = refl
+read_as-queued (Control control) = refl
 
 pub read_as-tag : (command : Command) (tag : ℕ)
     → tag_with (read_as command) tag ≡ tag_with command tag
@@ -198,67 +211,110 @@ read_as-tag (ReadLog10 dma) tag = refl
 read_as-tag Flush tag = refl
 read_as-tag (SetFeatures feature) tag = refl
 read_as-tag (ReadLog page dma) tag = refl
+read_as-tag (ReadPio lba count) tag = refl
+read_as-tag (WritePio lba count) tag = refl
+read_as-tag (Verify lba count) tag = refl
+read_as-tag (Control control) tag = refl
 
 -- How many bytes go to the device with a command.
 abbrev pub brought : Command → ℕ
 brought command = if to_device command then bytes_moved command else 0
 
--- As many as its FIS asks for, where it is not queued.
-pub payload_is : (command : Command) (tag : ℕ) → IsCounted command → blocks_moved command ≤ 256
-    → payload_length (fis_of command tag) ≡ (if is_queued_command command then 0 else brought command)
-payload_is (ReadQueued lba count) tag counted most = refl
-payload_is (WriteQueued lba count) tag counted most = refl
-payload_is (ReadDma lba count) tag counted most = refl
-payload_is (WriteDma lba count) tag counted most =
-    ap (λ (n : ℕ). sector_size * n) (sectors-back count counted.0 counted.1)
-payload_is (Send protocol com_id blocks true) tag counted most =
-    ap (λ (n : ℕ). sector_size * n) (blocks-back blocks com_id most)
-payload_is (Send protocol com_id blocks false) tag counted most =
-    ap (λ (n : ℕ). sector_size * n) (blocks-back blocks com_id most)
-payload_is (Receive protocol com_id blocks true) tag counted most = refl
-payload_is (Receive protocol com_id blocks false) tag counted most = refl
-payload_is Identify tag counted most = refl
-payload_is (ReadLog10 true) tag counted most = refl
-payload_is (ReadLog10 false) tag counted most = refl
-payload_is Flush tag counted most = refl
-payload_is (SetFeatures feature) tag counted most = refl
-payload_is (ReadLog page true) tag counted most = refl
-payload_is (ReadLog page false) tag counted most = refl
+-- A command of a request is none that the opal profile alone has.
+not-general : (command : Command) → is_of_request command ≡ true → is_general command ≡ false
+not-general (ReadQueued lba count) asked = refl
+not-general (WriteQueued lba count) asked = refl
+not-general (ReadDma lba count) asked = refl
+not-general (WriteDma lba count) asked = refl
+not-general (Send protocol com_id blocks dma) asked = refl
+not-general (Receive protocol com_id blocks dma) asked = refl
+not-general Identify asked = refl
+not-general (ReadLog10 dma) asked = refl
+not-general Flush asked = refl
+not-general (SetFeatures feature) asked = refl
+not-general (ReadLog page dma) asked = refl
+not-general (ReadPio lba count) asked = absurd (unasked asked)
+not-general (WritePio lba count) asked = absurd (unasked asked)
+not-general (Verify lba count) asked = absurd (unasked asked)
+not-general (Control control) asked = absurd (unasked asked)
 
--- No spelling of the port is one of 28 bits.
-not-short : (command : Command) (tag : ℕ) → ((fis_of command tag).command == short_write_dma) ≡ false
-not-short (ReadQueued lba count) tag = refl
-not-short (WriteQueued lba count) tag = refl
-not-short (ReadDma lba count) tag = refl
-not-short (WriteDma lba count) tag = refl
-not-short (Send protocol com_id blocks true) tag = refl
-not-short (Send protocol com_id blocks false) tag = refl
-not-short (Receive protocol com_id blocks true) tag = refl
-not-short (Receive protocol com_id blocks false) tag = refl
-not-short Identify tag = refl
-not-short (ReadLog10 true) tag = refl
-not-short (ReadLog10 false) tag = refl
-not-short Flush tag = refl
-not-short (SetFeatures feature) tag = refl
-not-short (ReadLog page true) tag = refl
-not-short (ReadLog page false) tag = refl
+-- The FIS of a command that is none of those: no profile reads more data with it than another.
+record HasOldCode (code : ℕ) : Type 0 where
+  not_short : (code == short_write_dma) ≡ false
+  not_more : writes_more code ≡ false
 
-any-profile : (p : Profile) (command : Command) (tag : ℕ)
+general : true ≡ false → ⊥
+general h = cc
+
+old-code : (command : Command) (tag : ℕ) → is_general command ≡ false
+    → HasOldCode (fis_of command tag).command
+old-code (ReadQueued lba count) tag none = record { not_short = refl; not_more = refl }
+old-code (WriteQueued lba count) tag none = record { not_short = refl; not_more = refl }
+old-code (ReadDma lba count) tag none = record { not_short = refl; not_more = refl }
+old-code (WriteDma lba count) tag none = record { not_short = refl; not_more = refl }
+old-code (Send protocol com_id blocks true) tag none = record { not_short = refl; not_more = refl }
+old-code (Send protocol com_id blocks false) tag none = record { not_short = refl; not_more = refl }
+old-code (Receive protocol com_id blocks true) tag none = record { not_short = refl; not_more = refl }
+old-code (Receive protocol com_id blocks false) tag none = record { not_short = refl; not_more = refl }
+old-code Identify tag none = record { not_short = refl; not_more = refl }
+old-code (ReadLog10 true) tag none = record { not_short = refl; not_more = refl }
+old-code (ReadLog10 false) tag none = record { not_short = refl; not_more = refl }
+old-code Flush tag none = record { not_short = refl; not_more = refl }
+old-code (SetFeatures feature) tag none = record { not_short = refl; not_more = refl }
+old-code (ReadLog page true) tag none = record { not_short = refl; not_more = refl }
+old-code (ReadLog page false) tag none = record { not_short = refl; not_more = refl }
+old-code (ReadPio lba count) tag none = absurd (general none)
+old-code (WritePio lba count) tag none = absurd (general none)
+old-code (Verify lba count) tag none = absurd (general none)
+old-code (Control control) tag none = absurd (general none)
+
+pub any_profile : (p : Profile) (command : Command) (tag : ℕ) → is_general command ≡ false
     → payload_length_in p (fis_of command tag) ≡ payload_length (fis_of command tag)
-any-profile Base command tag = refl
-any-profile Field command tag =
+any_profile Base command tag none = refl
+any_profile Field command tag none =
     ap
     (λ (b : Bool). cond b (sector_size * short_sectors (fis_of command tag)) (payload_length (fis_of command tag)))
-    (not-short command tag)
-any-profile Opal command tag =
+    (old-code command tag none).not_short
+any_profile Opal command tag none =
     ap
-    (λ (b : Bool). cond b (sector_size * short_sectors (fis_of command tag)) (payload_length (fis_of command tag)))
-    (not-short command tag)
+    (λ (b : Bool). cond b (sector_size * sectors_of (fis_of command tag)) (field_payload_length (fis_of command tag)))
+    (old-code command tag none).not_more
+    ∙ any_profile Field command tag none
+
+-- As many as its FIS asks for, where it is not queued.
+plain-payload : (command : Command) (tag : ℕ) → IsSized command
+    → payload_length (fis_of command tag) ≡ (if is_queued_command command then 0 else brought command)
+plain-payload (ReadQueued lba count) tag sized = refl
+plain-payload (WriteQueued lba count) tag sized = refl
+plain-payload (ReadDma lba count) tag sized = refl
+plain-payload (WriteDma lba count) tag sized =
+    ap (λ (n : ℕ). sector_size * n) (sectors-back count sized.counted.0 sized.counted.1)
+plain-payload (Send protocol com_id blocks true) tag sized =
+    ap (λ (n : ℕ). sector_size * n) (blocks-back blocks com_id sized.most)
+plain-payload (Send protocol com_id blocks false) tag sized =
+    ap (λ (n : ℕ). sector_size * n) (blocks-back blocks com_id sized.most)
+plain-payload (Receive protocol com_id blocks true) tag sized = refl
+plain-payload (Receive protocol com_id blocks false) tag sized = refl
+plain-payload Identify tag sized = refl
+plain-payload (ReadLog10 true) tag sized = refl
+plain-payload (ReadLog10 false) tag sized = refl
+plain-payload Flush tag sized = refl
+plain-payload (SetFeatures feature) tag sized = refl
+plain-payload (ReadLog page true) tag sized = refl
+plain-payload (ReadLog page false) tag sized = refl
+plain-payload (ReadPio lba count) tag sized = absurd (unasked sized.asked)
+plain-payload (WritePio lba count) tag sized = absurd (unasked sized.asked)
+plain-payload (Verify lba count) tag sized = absurd (unasked sized.asked)
+plain-payload (Control control) tag sized = absurd (unasked sized.asked)
+
+pub payload_is : (p : Profile) (command : Command) (tag : ℕ) → IsSized command
+    → payload_length_in p (fis_of command tag) ≡ (if is_queued_command command then 0 else brought command)
+payload_is p command tag sized =
+    any_profile p command tag (not-general command sized.asked) ∙ plain-payload command tag sized
 
 -- and its bytes as many as the FIS itself
 pub fis_brings : (config : Config) (command : Command) (tag : ℕ)
-    → payload_of config (command_fis command tag) ≡ payload_length (fis_of command tag)
+    → payload_of config (command_fis command tag) ≡ payload_length_in config.profile (fis_of command tag)
 fis_brings config command tag =
     payload-of-command config (command_fis command tag) refl
     ∙ ap (payload_length_in config.profile) (fis_back command tag)
-    ∙ any-profile config.profile command tag

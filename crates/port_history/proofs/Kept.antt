@@ -625,6 +625,10 @@ freed u t bytes (commands.ReadLog10 dma) past = freed_by t past (u == t)
 freed u t bytes commands.Flush past = freed_by t past (u == t)
 freed u t bytes (commands.SetFeatures feature) past = freed_by t past (u == t)
 freed u t bytes (commands.ReadLog page dma) past = freed_by t past (u == t)
+freed u t bytes (commands.ReadPio lba count) past = freed_by t past (u == t)
+freed u t bytes (commands.WritePio lba count) past = freed_by t past (u == t)
+freed u t bytes (commands.Verify lba count) past = freed_by t past (u == t)
+freed u t bytes (commands.Control control) past = freed_by t past (u == t)
 
 pub failure_moved : (u : ℕ) (bytes : List ℕ) (command : Command) (past : List Event)
     → failure (completed_by u bytes command ∷ past) ≡ failure past
@@ -639,6 +643,10 @@ failure_moved u bytes (commands.ReadLog10 dma) past = refl
 failure_moved u bytes commands.Flush past = refl
 failure_moved u bytes (commands.SetFeatures feature) past = refl
 failure_moved u bytes (commands.ReadLog page dma) past = refl
+failure_moved u bytes (commands.ReadPio lba count) past = refl
+failure_moved u bytes (commands.WritePio lba count) past = refl
+failure_moved u bytes (commands.Verify lba count) past = refl
+failure_moved u bytes (commands.Control control) past = refl
 
 pub kept_complete : (ms : List Moment) (u : ℕ) (put : Put) (e : Effect) (bytes : List ℕ) → u < 32
     → Kept ms → failed ms ≡ None → stage ms u ≡ Accepted put

@@ -30,13 +30,18 @@ use Rattle.port_history.specs.Requests.{log_fis, blocks_moved}
 use Rattle.port_history.specs.Stages.{is_active, is_answered, is_issued, is_queued_command}
 use Rattle.port_history.specs.Steps.{Moment, trace_of, trace, events, acts, stage, failed, is_tag, answer, act_of, reply}
 
--- The commands of requests: trusted ones in their forms by DMA, and no read of a log.
+-- The commands of requests: trusted ones in their forms by DMA, no read of a log, no choice of a feature, and no command that
+-- the opal profile alone has.
 abbrev pub is_of_request : Command → Bool
 is_of_request (commands.Send protocol com_id blocks dma) = dma
 is_of_request (commands.Receive protocol com_id blocks dma) = dma
 is_of_request (commands.ReadLog10 dma) = false
 is_of_request (commands.ReadLog page dma) = false
 is_of_request (commands.SetFeatures feature) = false
+is_of_request (commands.ReadPio lba count) = false
+is_of_request (commands.WritePio lba count) = false
+is_of_request (commands.Verify lba count) = false
+is_of_request (commands.Control control) = false
 is_of_request _ = true
 
 -- What a command needs so that it is read as it is.

@@ -60,6 +60,10 @@ pub fn is_queued(command: Command) -> bool
         | Command::ReadLog10 { .. }
         | Command::Flush
         | Command::SetFeatures { .. }
-        | Command::ReadLog { .. } => false,
+        | Command::ReadLog { .. }
+        | Command::ReadPio { .. }
+        | Command::WritePio { .. }
+        | Command::Verify { .. }
+        | Command::Control { .. } => false,
     }
 }

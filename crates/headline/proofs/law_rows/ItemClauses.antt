@@ -13,7 +13,7 @@ use Rattle.locking.specs.declared.range.Op.{Op}
 use Rattle.locking.specs.declared.range.Op.TheVariants.{Read, Write}
 use Rattle.locking.specs.declared.ranges.Verdict.TheVariants.{Denied}
 use Rattle.history.specs.Decisions.{on_drive, ranges_in_force, verdict_on}
-use Rattle.history.specs.DenialLaws.{Moves, IsFree}
+use Rattle.history.specs.DenialLaws.{Reaches, IsFree}
 use Rattle.history.specs.Events.{HeldCommand, QueueDeed, OfQueue, Wrote, Took}
 use Rattle.history.specs.Facts.{Facts, facts}
 use Rattle.history.specs.History.{Act, Accept, event_in, log_of}
@@ -111,7 +111,7 @@ held_says : HeldLaw → (items : Items) → IsQuiet items → (o : Origin) (acts
     → (before later : List Act) × (fis payload : List ℕ) × (op : Op) × (lba count : ℕ)
     × (acts ≡ later ++ Accept fis payload ∷ before)
     × IsLookedAtBy items (facts o (log_of items o before)) (Accept fis payload) h.command (Some tag)
-    × Moves h.command (Some tag) op lba count
+    × Reaches h.command (Some tag) op lba count
     × (on_drive (facts o (log_of items o before)) lba count ≡ true)
     × (verdict_on (facts o (log_of items o before)) op lba count ≡ h.verdict)
     × IsPermitted (ranges_in_force (facts o (log_of items o before))) op lba count
@@ -140,35 +140,39 @@ none_under_32 law items quiet reads o acts h is = omega (arith, law items quiet 
 -- `served`: what is permitted does not fail, what does not fail is permitted, and all else is aborted.
 permitted_is_served : ServiceLaw → (items : Items) (f : Facts) (act : Act) (command : Command)
     (tag : Option ℕ) (op : Op) (lba count : ℕ) → IsLookedAtBy items f act command tag
-    → Moves command tag op lba count → IsFree f tag → on_drive f lba count ≡ true
+    → Reaches command tag op lba count → IsFree f tag → on_drive f lba count ≡ true
     → IsPermitted (ranges_in_force f) op lba count → (event_in items f act).failed ≡ None
 permitted_is_served law items f act command tag op lba count looked moves free on permitted =
     (law items f act command tag op lba count looked moves free on).served.1 permitted
 
 served_is_permitted : ServiceLaw → (items : Items) (f : Facts) (act : Act) (command : Command)
     (tag : Option ℕ) (op : Op) (lba count : ℕ) → IsLookedAtBy items f act command tag
-    → Moves command tag op lba count → IsFree f tag → on_drive f lba count ≡ true
+    → Reaches command tag op lba count → IsFree f tag → on_drive f lba count ≡ true
     → (event_in items f act).failed ≡ None → IsPermitted (ranges_in_force f) op lba count
 served_is_permitted law items f act command tag op lba count looked moves free on served =
     (law items f act command tag op lba count looked moves free on).served.0 served
 
 else_aborted : ServiceLaw → (items : Items) (f : Facts) (act : Act) (command : Command)
     (tag : Option ℕ) (op : Op) (lba count : ℕ) → IsLookedAtBy items f act command tag
-    → Moves command tag op lba count → IsFree f tag → on_drive f lba count ≡ true
+    → Reaches command tag op lba count → IsFree f tag → on_drive f lba count ≡ true
     → (IsPermitted (ranges_in_force f) op lba count → ⊥) → (event_in items f act).failed ≡ Some 0x04
 else_aborted law items f act command tag op lba count looked moves free on missing =
     (law items f act command tag op lba count looked moves free on).denied missing
 
--- `written`: a write that moved its data was of sectors on the drive, permitted, and of the bytes that came with it.
+-- `written`: what moved its data was a write of sectors on the drive, permitted, and of the bytes that came with it.
 write_says : WriteLaw → (items : Items) → IsQuiet items → (f : Facts) (act : Act) (lba : ℕ)
     (bytes : List ℕ) → (event_in items f act).deed ≡ Wrote lba bytes
-    → (count : ℕ) × (fis : List ℕ) × (act ≡ Accept fis bytes) × (on_drive f lba count ≡ true)
+    → (count : ℕ) × (command : Command) × (fis : List ℕ) × (act ≡ Accept fis bytes)
+    × IsLookedAtBy items f act command None × Reaches command None Write lba count × (on_drive f lba count ≡ true)
     × IsPermitted (ranges_in_force f) Write lba count
 write_says law items quiet f act lba bytes wrote =
     let its = law items quiet f act lba bytes wrote in (
       its.count,
+      its.command,
       its.looked.fis,
       its.looked.accepts ∙ ap (λ b. Accept its.looked.fis b) (sym its.payload),
+      its.looked,
+      its.writes,
       its.on_drive,
       its.permitted,
     )
