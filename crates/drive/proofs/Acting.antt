@@ -28,7 +28,7 @@ use Rattle.tcg_tokens.specs.Reading.{reading as message_in}
 use Rattle.shadow_mbr.specs.Stored.{StoredSectors, sector_size, sector_at, zeros}
 use Rattle.transactions.specs.Sights.{look_up, committed_sight}
 use Rattle.trusted_cmds.specs.declared.command.Command.{Command}
-use Rattle.trusted_cmds.specs.declared.command.Command.TheVariants.{ReadQueued, WriteQueued, ReadDma, WriteDma, Send, Receive, Identify, ReadLog10, Flush, SetFeatures, ReadLog}
+use Rattle.trusted_cmds.specs.declared.command.Command.TheVariants.{ReadQueued, WriteQueued, ReadDma, WriteDma, Send, Receive, Identify, ReadLog10, Flush, SetFeatures, ReadLog, ReadPio, WritePio, Verify, Control}
 use Rattle.trusted_cmds.specs.Commands.{is_programmatic_reset, is_protocol_list, is_certificate_data, reset_protocol}
 use Rattle.trusted_cmds.specs.BlockSid.{is_block_sid, block_asked}
 use Rattle.trusted_cmds.specs.declared.block.SidBlock.{SidBlock}
@@ -54,7 +54,9 @@ use Rattle.drive.specs.declared.decision.Cause.TheVariants as causes
 use Rattle.drive.specs.declared.decision.Decision.{Decision}
 use Rattle.drive.specs.declared.decision.Decision.TheVariants.{Aborts, FailsQueue, Holds, Moves, Executes, Restarts, Blocks}
 use Rattle.drive.specs.declared.transfer.Held.{Held}
-use Rattle.drive.specs.Transfer.{transfer_by, queued_command, unqueued_command, held_bytes, sector_then}
+use Rattle.drive.specs.declared.transfer.Way.{Way}
+use Rattle.drive.specs.declared.transfer.Way.TheVariants as ways
+use Rattle.drive.specs.Transfer.{transfer_by, queued_command, unqueued_command, moved_bytes, sector_then}
 use Rattle.drive.specs.Queue.{with_slot, failed_queue}
 use Rattle.drive.specs.Decision.{ranges_of, transfer_deed, executed, is_for_stack, asked_of_stack, reason, ruling, decision_event, CanExecute, IsMoved}
 use Rattle.std.proofs.lemmas.Bool.Decides.{nat_tests}
@@ -146,6 +148,10 @@ protocols-keeps d o past payload (ReadQueued lba count) is k = absurd (no-list i
 protocols-keeps d o past payload (WriteQueued lba count) is k = absurd (no-list is)
 protocols-keeps d o past payload (ReadDma lba count) is k = absurd (no-list is)
 protocols-keeps d o past payload (WriteDma lba count) is k = absurd (no-list is)
+protocols-keeps d o past payload (ReadPio lba count) is k = absurd (no-list is)
+protocols-keeps d o past payload (WritePio lba count) is k = absurd (no-list is)
+protocols-keeps d o past payload (Verify lba count) is k = absurd (no-list is)
+protocols-keeps d o past payload (Control control) is k = absurd (no-list is)
 
 pub protocols-data : (f : Facts) (protocol com_id blocks : ℕ) (dma : Bool)
     → is_protocol_list (Receive protocol com_id blocks dma) ≡ true
@@ -180,6 +186,10 @@ certificates-keeps d o past payload command p is k = by_command command (certifi
     by_command (WriteQueued lba count) g = absurd (no-list g)
     by_command (ReadDma lba count) g = absurd (no-list g)
     by_command (WriteDma lba count) g = absurd (no-list g)
+    by_command (ReadPio lba count) g = absurd (no-list g)
+    by_command (WritePio lba count) g = absurd (no-list g)
+    by_command (Verify lba count) g = absurd (no-list g)
+    by_command (Control control) g = absurd (no-list g)
 
 -- what is told where the list of protocols is not asked for, nor the stack of a ComID
 other-data : (f : Facts) (protocol com_id blocks : ℕ) (dma certificates : Bool)
@@ -314,6 +324,10 @@ asked-succeeds f payload (ReadQueued lba count) = (refl, refl)
 asked-succeeds f payload (WriteQueued lba count) = (refl, refl)
 asked-succeeds f payload (ReadDma lba count) = (refl, refl)
 asked-succeeds f payload (WriteDma lba count) = (refl, refl)
+asked-succeeds f payload (ReadPio lba count) = (refl, refl)
+asked-succeeds f payload (WritePio lba count) = (refl, refl)
+asked-succeeds f payload (Verify lba count) = (refl, refl)
+asked-succeeds f payload (Control control) = (refl, refl)
 
 took-succeeds : (com_id : ℕ) (b : Bool) → Succeeds (if b then did (Took com_id) else did Nothing)
 took-succeeds com_id true = (refl, refl)
@@ -339,6 +353,10 @@ executed-succeeds f payload (ReadQueued lba count) can = absurd can
 executed-succeeds f payload (WriteQueued lba count) can = absurd can
 executed-succeeds f payload (ReadDma lba count) can = absurd can
 executed-succeeds f payload (WriteDma lba count) can = absurd can
+executed-succeeds f payload (ReadPio lba count) can = absurd can
+executed-succeeds f payload (WritePio lba count) can = absurd can
+executed-succeeds f payload (Verify lba count) can = absurd can
+executed-succeeds f payload (Control control) can = (refl, refl)
 
 -- the fields of an answer
 
@@ -429,6 +447,10 @@ reset-no-data f (ReadQueued lba count) is = absurd cc
 reset-no-data f (WriteQueued lba count) is = absurd cc
 reset-no-data f (ReadDma lba count) is = absurd cc
 reset-no-data f (WriteDma lba count) is = absurd cc
+reset-no-data f (ReadPio lba count) is = absurd cc
+reset-no-data f (WritePio lba count) is = absurd cc
+reset-no-data f (Verify lba count) is = absurd cc
+reset-no-data f (Control control) is = absurd cc
 
 pub restarts-done : (f : Facts) (h : RegH2d) (e : DriveState) (o : Origin) (past : List Event) (payload : List ℕ) (command : Command) (made : Decision) (a : Accepted)
     → made ≡ Restarts command → (command_read f.config h ≡ Ok (command, None)) × (is_programmatic_reset command ≡ true)
@@ -453,6 +475,10 @@ block-no-data f profile (ReadQueued lba count) is = absurd cc
 block-no-data f profile (WriteQueued lba count) is = absurd cc
 block-no-data f profile (ReadDma lba count) is = absurd cc
 block-no-data f profile (WriteDma lba count) is = absurd cc
+block-no-data f profile (ReadPio lba count) is = absurd cc
+block-no-data f profile (WritePio lba count) is = absurd cc
+block-no-data f profile (Verify lba count) is = absurd cc
+block-no-data f profile (Control control) is = absurd cc
 
 pub blocks-done : (f : Facts) (h : RegH2d) (e : DriveState) (o : Origin) (past : List Event) (payload : List ℕ) (profile : Profile) (command : Command) (made : Decision) (a : Accepted)
     → made ≡ Blocks command → (command_read f.config h ≡ Ok (command, None)) × (is_block_sid profile command ≡ true)
@@ -472,36 +498,36 @@ block-keeps d e o past block tper queue chosen media k =
     (λ s. ap (λ (m : StoredSectors). sector_at m s) media) k
 
 -- the data of an unqueued transfer
-moved-data : (d : DriveState) (f : Facts) (op : Op) (lba count : ℕ) (shadowed : Bool)
+moved-data : (d : DriveState) (f : Facts) (way : Way) (op : Op) (lba count : ℕ) (shadowed : Bool)
     → verdict_of (ranges_of d.tper) op lba count ≡ (if shadowed then Shadow else Serve)
-    → held_bytes (kept_facts d f) (record { transfer = transfer_by op lba count; is_shadowed = shadowed }) ≡ data_of (kept_facts d f) (unqueued_command (transfer_by op lba count))
-moved-data d f Read lba count shadowed v = sym (ap (read_by (kept_facts d f) lba count) v)
-moved-data d f Write lba count shadowed v = refl
-
-moved-fises : (op : Op) (lba count : ℕ) → served_fises (unqueued_command (transfer_by op lba count)) ≡ answer_fis true ready 0 ∷ []
-moved-fises Read lba count = refl
-moved-fises Write lba count = refl
+    → moved_bytes (kept_facts d f) way (record { transfer = transfer_by op lba count; is_shadowed = shadowed })
+    ≡ data_of (kept_facts d f) (unqueued_command way (transfer_by op lba count))
+moved-data d f ways.Dma Read lba count shadowed v = sym (ap (read_by (kept_facts d f) lba count) v)
+moved-data d f ways.Dma Write lba count shadowed v = refl
+moved-data d f ways.Pio Read lba count shadowed v = sym (ap (read_by (kept_facts d f) lba count) v)
+moved-data d f ways.Pio Write lba count shadowed v = refl
+moved-data d f ways.Verify op lba count shadowed v = refl
 
 moves-succeeds : (op : Op) (lba count : ℕ) (payload : List ℕ) → Succeeds (did (transfer_deed (transfer_by op lba count) payload))
 moves-succeeds Read lba count payload = (refl, refl)
 moves-succeeds Write lba count payload = (refl, refl)
 
-pub moves-done : (h : RegH2d) (d e : DriveState) (o : Origin) (past : List Event) (payload : List ℕ) (its : Held) (made : Decision) (a : Accepted)
-    → made ≡ Moves its → IsMoved d h its → e.tper ≡ d.tper → e.queue ≡ d.queue → e.settings ≡ d.settings
+pub moves-done : (h : RegH2d) (d e : DriveState) (o : Origin) (past : List Event) (payload : List ℕ) (its : Held) (way : Way) (made : Decision) (a : Accepted)
+    → made ≡ Moves its way → IsMoved d h its way → e.tper ≡ d.tper → e.queue ≡ d.queue → e.settings ≡ d.settings
     → ((s : ℕ) → sector_at e.media s ≡ sector_then its.transfer payload (sector_at d.media s) s)
-    → IsTold a ready 0 false (answer_fis true ready 0 ∷ []) (held_bytes (kept_facts d (facts o past)) its) None None
+    → IsTold a ready 0 false (served_fises (unqueued_command way its.transfer)) (moved_bytes (kept_facts d (facts o past)) way its) None None
     → KeepsDrive d o past → IsDoneAndAnswered (facts o past) h (decision_event (facts o past) payload made) e o past a
-moves-done h d e o past payload its made a is due tper queue chosen media t k =
+moves-done h d e o past payload its way made a is due tper queue chosen media t k =
     let op : Op = its.transfer.op in
     let lba : ℕ = its.transfer.lba in
     let count : ℕ = its.transfer.count in
-    let same : held_bytes (kept_facts d (facts o past)) its ≡ data_of (facts o past) (unqueued_command its.transfer) =
-    moved-data d (facts o past) op lba count its.is_shadowed due.verdict ∙ ap (λ (f : Facts). data_of f (unqueued_command its.transfer)) (seen-is d o past k) in
-    let told : IsTold a ready 0 false (served_fises (unqueued_command its.transfer)) (data_of (facts o past) (unqueued_command its.transfer)) None None =
-    record { status_is = t.status_is; error_is = t.error_is; held_is = t.held_is; fises_are = t.fises_are ∙ sym (moved-fises op lba count); bytes_are = t.bytes_are ∙ same; denied_is = t.denied_is; rule_is = t.rule_is } in
+    let same : moved_bytes (kept_facts d (facts o past)) way its ≡ data_of (facts o past) (unqueued_command way its.transfer) =
+    moved-data d (facts o past) way op lba count its.is_shadowed due.verdict ∙ ap (λ (f : Facts). data_of f (unqueued_command way its.transfer)) (seen-is d o past k) in
+    let told : IsTold a ready 0 false (served_fises (unqueued_command way its.transfer)) (data_of (facts o past) (unqueued_command way its.transfer)) None None =
+    record { status_is = t.status_is; error_is = t.error_is; held_is = t.held_is; fises_are = t.fises_are; bytes_are = t.bytes_are ∙ same; denied_is = t.denied_is; rule_is = t.rule_is } in
     subst (λ (x : Decision). IsDoneAndAnswered (facts o past) h (decision_event (facts o past) payload x) e o past a) (sym is) (
       moved-keeps d e o past op lba count payload (did (transfer_deed its.transfer payload)) refl tper queue chosen media k,
-      served-answer (facts o past) h (did (transfer_deed its.transfer payload)) a (unqueued_command its.transfer) (moves-succeeds op lba count payload) (read-as d o past h _ k due.reads) told,
+      served-answer (facts o past) h (did (transfer_deed its.transfer payload)) a (unqueued_command way its.transfer) (moves-succeeds op lba count payload) (read-as d o past h _ k due.reads) told,
     )
 
 -- what was decided by what is kept is what the past says

@@ -6,9 +6,10 @@ use Rattle.std.proofs.Common.{◌≡◌, ◌==◌, slice_index, ℕ, Bool, true,
 use Rattle.fis.specs.H2d.{h2d_at}
 use Rattle.fis.specs.Types.{h2d_type}
 use Rattle.fis.specs.declared.h2d.RegH2d.{RegH2d}
+use Rattle.locking.specs.declared.range.Op.{Op}
 use Rattle.locking.specs.declared.range.Op.TheVariants.{Read, Write}
 use Rattle.trusted_cmds.specs.declared.command.Command.{Command}
-use Rattle.trusted_cmds.specs.declared.command.Command.TheVariants.{ReadQueued, WriteQueued, ReadDma, WriteDma, Send, Receive, Identify, ReadLog10, Flush, SetFeatures, ReadLog}
+use Rattle.trusted_cmds.specs.declared.command.Command.TheVariants.{ReadQueued, WriteQueued, ReadDma, WriteDma, Send, Receive, Identify, ReadLog10, Flush, SetFeatures, ReadLog, ReadPio, WritePio, Verify, Control}
 use Rattle.trusted_cmds.specs.declared.command.CommandError.{CommandError}
 use Rattle.trusted_cmds.specs.Commands.{is_queued}
 use Rattle.trusted_cmds.specs.BlockSid.{is_block_sid, block_asked, is_blocked}
@@ -21,7 +22,9 @@ use Rattle.history.specs.Decisions.{refuses, resets, while_failed, admitted, que
 use Rattle.history.specs.Tcg.{accepted, commanded, known, unqueued, command_read, blocks_sid, stack_sent, send_item, send_other, send}
 use Rattle.drive.specs.declared.transfer.Held.{Held}
 use Rattle.drive.specs.declared.transfer.Transfer.{Transfer}
-use Rattle.drive.specs.Transfer.{transfer_by, queued_command, held_command}
+use Rattle.drive.specs.declared.transfer.Way.{Way}
+use Rattle.drive.specs.declared.transfer.Way.TheVariants as ways
+use Rattle.drive.specs.Transfer.{transfer_by, queued_command, unqueued_command, held_command, CanGo}
 use Rattle.drive.specs.Decision.{transfer_deed, is_for_stack, asked_of_stack}
 use Rattle.audit.specs.declared.rules.rule.Rule.TheVariants.{NoCommand, SidKept}
 
@@ -40,13 +43,15 @@ pub admits-write : (f : Facts) (h : RegH2d) (tag lba count : ℕ) (c : Command) 
 admits-write f h tag lba count c t x is made free = rw (is, made, held-some x, free) refl
 
 -- a transfer that is not queued
-pub unqueued-read : (f : Facts) (payload : List ℕ) (lba count : ℕ) (c : Command) (t : Transfer) → c ≡ ReadDma lba count → t ≡ transfer_by Read lba count
+pub unqueued-so : (f : Facts) (payload : List ℕ) (way : Way) (op : Op) (lba count : ℕ) (c : Command) (t : Transfer) → CanGo way op
+    → c ≡ unqueued_command way (transfer_by op lba count) → t ≡ transfer_by op lba count
     → unqueued_transfer f (transfer_deed t payload) t.op t.lba t.count ≡ unqueued f payload c
-unqueued-read f payload lba count c t is made = rw (is, made) refl
-
-pub unqueued-write : (f : Facts) (payload : List ℕ) (lba count : ℕ) (c : Command) (t : Transfer) → c ≡ WriteDma lba count → t ≡ transfer_by Write lba count
-    → unqueued_transfer f (transfer_deed t payload) t.op t.lba t.count ≡ unqueued f payload c
-unqueued-write f payload lba count c t is made = rw (is, made) refl
+unqueued-so f payload ways.Dma Read lba count c t goes is made = rw (is, made) refl
+unqueued-so f payload ways.Dma Write lba count c t goes is made = rw (is, made) refl
+unqueued-so f payload ways.Pio Read lba count c t goes is made = rw (is, made) refl
+unqueued-so f payload ways.Pio Write lba count c t goes is made = rw (is, made) refl
+unqueued-so f payload ways.Verify Read lba count c t goes is made = rw (is, made) refl
+unqueued-so f payload ways.Verify Write lba count c t goes is made = absurd cc
 
 -- the command that blocks SID
 pub block_made : (f : Facts) (payload : List ℕ) (c : Command) → is_block_sid f.config.profile c ≡ true → resets f.rows c ≡ false → false ≡ (has_owner f.rows || is_blocked f.beside.block)
@@ -65,6 +70,10 @@ block_made f payload (ReadQueued lba count) is kept free = cc
 block_made f payload (WriteQueued lba count) is kept free = cc
 block_made f payload (ReadDma lba count) is kept free = cc
 block_made f payload (WriteDma lba count) is kept free = cc
+block_made f payload (ReadPio lba count) is kept free = cc
+block_made f payload (WritePio lba count) is kept free = cc
+block_made f payload (Verify lba count) is kept free = cc
+block_made f payload (Control control) is kept free = cc
 
 pub block_refused : (f : Facts) (payload : List ℕ) (c : Command) → is_block_sid f.config.profile c ≡ true → resets f.rows c ≡ false → true ≡ (has_owner f.rows || is_blocked f.beside.block)
     → refuses SidKept ≡ unqueued f payload c
@@ -82,6 +91,10 @@ block_refused f payload (ReadQueued lba count) is kept free = cc
 block_refused f payload (WriteQueued lba count) is kept free = cc
 block_refused f payload (ReadDma lba count) is kept free = cc
 block_refused f payload (WriteDma lba count) is kept free = cc
+block_refused f payload (ReadPio lba count) is kept free = cc
+block_refused f payload (WritePio lba count) is kept free = cc
+block_refused f payload (Verify lba count) is kept free = cc
+block_refused f payload (Control control) is kept free = cc
 
 -- what is for the stack of a ComID
 pub stack_asked : (f : Facts) (payload : List ℕ) (c : Command) → is_for_stack f.config.profile c ≡ true → is_block_sid f.config.profile c ≡ false → resets f.rows c ≡ false
@@ -101,6 +114,10 @@ stack_asked f payload (ReadQueued lba count) is other kept = cc
 stack_asked f payload (WriteQueued lba count) is other kept = cc
 stack_asked f payload (ReadDma lba count) is other kept = cc
 stack_asked f payload (WriteDma lba count) is other kept = cc
+stack_asked f payload (ReadPio lba count) is other kept = cc
+stack_asked f payload (WritePio lba count) is other kept = cc
+stack_asked f payload (Verify lba count) is other kept = cc
+stack_asked f payload (Control control) is other kept = cc
 
 -- the order of the rules
 pub commanded-failed : (f : Facts) (h : RegH2d) (payload : List ℕ) → h.is_command ≡ true → is_some f.failure ≡ true → while_failed (command_read f.config h) ≡ commanded f h payload
@@ -116,7 +133,8 @@ log-untagged p h dma None w = refl
 log-untagged Base h dma (Some tag) w = absurd w
 log-untagged Field h dma (Some tag) (inl w) = absurd w
 log-untagged Field h dma (Some tag) (inr w) = absurd w
-log-untagged Opal h dma (Some tag) (inl w) = absurd w
+log-untagged Opal h dma (Some tag) (inl (inl w)) = absurd w
+log-untagged Opal h dma (Some tag) (inl (inr w)) = absurd w
 log-untagged Opal h dma (Some tag) (inr w) = absurd w
 
 -- what was read of the FIS

@@ -10,6 +10,7 @@ use Rattle.trusted_cmds.specs.declared.command.Command.TheVariants.{ReadQueued, 
 use Rattle.trusted_cmds.specs.declared.command.CommandError.{CommandError}
 use Rattle.trusted_cmds.specs.Commands.{has_lba_bit, tag_of, sectors, reading, read_queued, write_queued, is_queued}
 use Rattle.trusted_cmds.specs.Profiles.{reading_in, read_or, beside}
+use Rattle.trusted_cmds.specs.General.{more}
 use Rattle.sp_cells.specs.Config.{Config}
 use Rattle.history.specs.Facts.{Facts}
 use Rattle.history.specs.Decisions.{queued_transfer, admitted, is_busy}
@@ -27,7 +28,7 @@ use Rattle.drive.proofs.Commands.{admits-read, admits-write, known-some, command
 in-each : (p : Profile) (h : RegH2d) (r : Command × Option ℕ) → reading h ≡ Ok r → reading_in p h ≡ Ok r
 in-each Base h r is = is
 in-each Field h r is = ap (λ (x : Result (Command × Option ℕ) CommandError). read_or x (beside h)) is
-in-each Opal h r is = ap (λ (x : Result (Command × Option ℕ) CommandError). read_or x (beside h)) is
+in-each Opal h r is = ap (λ (x : Result (Command × Option ℕ) CommandError). read_or (read_or x (beside h)) (more h)) is
 
 reads : (h : RegH2d) (op : Op) → h.is_command ≡ true → has_lba_bit h.device ≡ true → h.command ≡ by_op op read_queued write_queued
     → reading h ≡ Ok (queued_command (transfer_by op h.lba (sectors h.feature)), Some (tag_of h))

@@ -5,7 +5,7 @@ use Rattle.fis.specs.declared.any.Fis.{Fis}
 use Rattle.history.specs.Opening.{Origin}
 use Rattle.history.specs.Events.{HeldCommand, Event}
 use Rattle.history.specs.Facts.{Facts}
-use Rattle.history.specs.Answers.{status_of, is_holding, completed_fises, completed_data, fises_of, answer_fis, pio_fis, setup_fis, moved_fis, ready, busy}
+use Rattle.history.specs.Answers.{status_of, is_holding, completed_fises, completed_data, fises_of, answer_fis, diagnosed_fis, power_fis, pio_fis, setup_fis, moved_fis, ready, busy}
 use Rattle.history.specs.Tcg.{answer_data, answer_fises}
 use Rattle.shadow_mbr.specs.Stored.{sector_at, heads}
 use Rattle.drive.specs.Transfer.{by_op, queued_command, held_bytes, sector_then}
@@ -15,13 +15,16 @@ use Rattle.drive.specs.declared.transfer.Held.{Held}
 use Rattle.drive.specs.declared.answer.Accepted.{Accepted}
 use Rattle.drive.specs.declared.answer.Completed.{Completed}
 use Rattle.drive.specs.declared.answer.Form.{Form}
-use Rattle.drive.specs.declared.answer.Form.TheVariants.{Register, PioIn, PioOut}
+use Rattle.drive.specs.declared.answer.Form.TheVariants.{Register, PioIn, PioOut, Diagnosed, Powered}
 
--- The FISes of a form, with the answer's registers: bit I stands where the command is not held.
+-- The FISes of a form, with the answer's registers: bit I stands where the command is not held. Two forms have fields of
+-- their own.
 abbrev pub form_fises : Form → Bool → ℕ → ℕ → List Fis
 form_fises Register is_held status error = answer_fis (not is_held) status error ∷ []
 form_fises PioIn is_held status error = pio_fis true ready ∷ []
 form_fises PioOut is_held status error = pio_fis false busy ∷ answer_fis true ready 0 ∷ []
+form_fises Diagnosed is_held status error = diagnosed_fis ∷ []
+form_fises Powered is_held status error = power_fis ∷ []
 
 -- The FISes of an answer.
 abbrev pub fises_in : Accepted → List Fis

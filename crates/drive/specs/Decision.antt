@@ -13,7 +13,7 @@ use Rattle.locking.specs.declared.ranges.Verdict.{Verdict}
 use Rattle.locking.specs.declared.ranges.Verdict.TheVariants.{Serve, Shadow, Denied}
 use Rattle.transactions.specs.Sights.{look_up, committed_sight}
 use Rattle.trusted_cmds.specs.declared.command.Command.{Command}
-use Rattle.trusted_cmds.specs.declared.command.Command.TheVariants.{Send, Receive, Identify, ReadLog10, Flush, SetFeatures, ReadLog}
+use Rattle.trusted_cmds.specs.declared.command.Command.TheVariants.{Send, Receive, Identify, ReadLog10, Flush, SetFeatures, ReadLog, Control}
 use Rattle.trusted_cmds.specs.Commands.{is_programmatic_reset, is_protocol_list}
 use Rattle.trusted_cmds.specs.BlockSid.{is_block_sid, block_asked}
 use Rattle.sp_cells.specs.Resets.{programmatic}
@@ -23,7 +23,7 @@ use Rattle.history.specs.Facts.{Facts}
 use Rattle.history.specs.Decisions.{aborted, not_found, fails, holds, received, is_session_com_id, discovery_com_id, unreceived, asks_stack}
 use Rattle.history.specs.Tcg.{sent, stack_sent, command_read, unsent, unqueued}
 use Rattle.tper.specs.Tper.{Tper}
-use Rattle.drive.specs.Transfer.{by_op, queued_command, unqueued_command, verdict_held, is_on_drive, StandsOnDrive}
+use Rattle.drive.specs.Transfer.{by_op, queued_command, unqueued_command, CanGo, verdict_held, is_on_drive, StandsOnDrive}
 use Rattle.drive.specs.State.{DriveState, kept_facts}
 use Rattle.drive.specs.declared.decision.Decision.{Decision}
 use Rattle.drive.specs.declared.decision.Decision.TheVariants.{Aborts, FailsQueue, Holds, Moves, Restarts, Blocks, AsksStack, Executes}
@@ -32,6 +32,7 @@ use Rattle.drive.specs.declared.decision.Cause.TheVariants as causes
 use Rattle.drive.specs.declared.decision.Refusal.{Refusal}
 use Rattle.drive.specs.declared.transfer.Transfer.{Transfer}
 use Rattle.drive.specs.declared.transfer.Held.{Held}
+use Rattle.drive.specs.declared.transfer.Way.{Way}
 
 -- The ranges and the shadow that the rows in force describe.
 abbrev pub ranges_of : Tper → RangeRows
@@ -126,7 +127,7 @@ decision_event f payload (FailsQueue failure cause) = record {
 }
 decision_event f payload (Holds tag held) = holds tag (queued_command held.transfer)
     (verdict_held held)
-decision_event f payload (Moves held) = did (transfer_deed held.transfer payload)
+decision_event f payload (Moves held way) = did (transfer_deed held.transfer payload)
 decision_event f payload (Restarts command) = did (WasReset programmatic)
 decision_event f payload (Blocks command) = did (BlockedSid (block_asked payload))
 decision_event f payload (AsksStack command) = asked_of_stack f payload command
@@ -145,8 +146,9 @@ pub record IsHeld (d : DriveState) (h : RegH2d) (tag : ℕ) (held : Held) : Type
   pub reads : command_read d.tper.store.config h ≡ Ok (queued_command held.transfer, Some tag)
   pub within : StandsOnDrive d.tper.store.config.sectors d.tper.store.config.mbr_sectors held
 
-pub record IsMoved (d : DriveState) (h : RegH2d) (held : Held) : Type 0 where
-  pub reads : command_read d.tper.store.config h ≡ Ok (unqueued_command held.transfer, None)
+pub record IsMoved (d : DriveState) (h : RegH2d) (held : Held) (way : Way) : Type 0 where
+  pub reads : command_read d.tper.store.config h ≡ Ok (unqueued_command way held.transfer, None)
+  pub goes : CanGo way held.transfer.op
   pub verdict : verdict_of (ranges_of d.tper) held.transfer.op held.transfer.lba held.transfer.count
       ≡ verdict_held held
   pub within : StandsOnDrive d.tper.store.config.sectors d.tper.store.config.mbr_sectors held
@@ -166,13 +168,14 @@ CanExecute (ReadLog10 dma) = Unit {0}
 CanExecute Flush = Unit {0}
 CanExecute (SetFeatures feature) = Unit {0}
 CanExecute (ReadLog pages dma) = Unit {0}
+CanExecute (Control control) = Unit {0}
 CanExecute _ = ⊥
 
 abbrev pub IsDue : DriveState → RegH2d → Decision → Type 0
 IsDue d h (Aborts error cause) = Unit {0}
 IsDue d h (FailsQueue failure cause) = Unit {0}
 IsDue d h (Holds tag held) = IsHeld d h tag held
-IsDue d h (Moves held) = IsMoved d h held
+IsDue d h (Moves held way) = IsMoved d h held way
 IsDue d h (Restarts command) =
     (command_read d.tper.store.config h ≡ Ok (command, None))
     × (is_programmatic_reset command ≡ true)

@@ -1,18 +1,20 @@
 -- Transfers: what moves, and what the media hold then (ACS-3, READ FPDMA QUEUED and WRITE FPDMA
--- QUEUED, READ DMA EXT and WRITE DMA EXT).
+-- QUEUED, READ DMA EXT and WRITE DMA EXT, READ SECTOR(S) and WRITE SECTOR(S), READ VERIFY SECTOR(S)).
 use Rattle.std.specs.Prelude.{ℕ, ◌≡◌, ◌+◌, ◌*◌, Bool, true, nat_le, List, [], if◌then◌else◌}
 use Rattle.locking.specs.declared.range.Op.{Op}
 use Rattle.locking.specs.declared.range.Op.TheVariants.{Read, Write}
 use Rattle.locking.specs.declared.ranges.Verdict.{Verdict}
 use Rattle.locking.specs.declared.ranges.Verdict.TheVariants.{Serve, Shadow}
 use Rattle.trusted_cmds.specs.declared.command.Command.{Command}
-use Rattle.trusted_cmds.specs.declared.command.Command.TheVariants.{ReadQueued, WriteQueued, ReadDma, WriteDma}
+use Rattle.trusted_cmds.specs.declared.command.Command.TheVariants.{ReadQueued, WriteQueued, ReadDma, WriteDma, ReadPio, WritePio, Verify}
 use Rattle.shadow_mbr.specs.Stored.{sector_size, sector_after}
 use Rattle.history.specs.Events.{HeldCommand}
 use Rattle.history.specs.Answers.{read_by}
 use Rattle.history.specs.Facts.{Facts}
 use Rattle.drive.specs.declared.transfer.Transfer.{Transfer}
 use Rattle.drive.specs.declared.transfer.Held.{Held}
+use Rattle.drive.specs.declared.transfer.Way.{Way}
+use Rattle.drive.specs.declared.transfer.Way.TheVariants as ways
 
 abbrev pub transfer_by : Op → ℕ → ℕ → Transfer
 transfer_by op lba count = record { op = op; lba = lba; count = count }
@@ -28,9 +30,18 @@ queued_command transfer =
     by_op transfer.op (ReadQueued transfer.lba transfer.count)
     (WriteQueued transfer.lba transfer.count)
 
-abbrev pub unqueued_command : Transfer → Command
-unqueued_command transfer =
+abbrev pub unqueued_command : Way → Transfer → Command
+unqueued_command ways.Dma transfer =
     by_op transfer.op (ReadDma transfer.lba transfer.count) (WriteDma transfer.lba transfer.count)
+unqueued_command ways.Pio transfer =
+    by_op transfer.op (ReadPio transfer.lba transfer.count) (WritePio transfer.lba transfer.count)
+unqueued_command ways.Verify transfer = Verify transfer.lba transfer.count
+
+-- Sectors are verified where they are read.
+abbrev pub CanGo : Way → Op → Type 0
+CanGo ways.Dma op = Unit {0}
+CanGo ways.Pio op = Unit {0}
+CanGo ways.Verify op = op ≡ Read
 
 -- The verdict of a transfer that is permitted: a shadowed read gives the shadow's bytes.
 abbrev pub verdict_held : Held → Verdict
@@ -54,6 +65,12 @@ abbrev pub held_bytes : Facts → Held → List ℕ
 held_bytes f held =
     by_op held.transfer.op
     (read_by f held.transfer.lba held.transfer.count (verdict_held held)) []
+
+-- Those that go to the host where it is not queued: none of sectors that are verified.
+abbrev pub moved_bytes : Facts → Way → Held → List ℕ
+moved_bytes f ways.Dma held = held_bytes f held
+moved_bytes f ways.Pio held = held_bytes f held
+moved_bytes f ways.Verify held = []
 
 -- What a sector holds after it, where it held `before`.
 abbrev pub sector_then : Transfer → List ℕ → List ℕ → ℕ → List ℕ

@@ -1,21 +1,21 @@
 //! What the drive answers (Serial ATA, FISes to the host; ACS-3, Status and Error).
 
 ghost use Rattle.std.specs.Prelude.{◌≡◌, ◌==◌, ◌^◌, ◌<◌, ◌≤◌, ℕ, true, false, not, [], ◌∷◌, Some, None};
-ghost use Rattle.history.specs.Answers.{answer_fis, pio_fis, served_fises, ready, errored, setup_fis, moved_fis};
+ghost use Rattle.history.specs.Answers.{answer_fis, diagnosed_fis, moved_fis, pio_fis, power_fis, served_fises, setup_fis, ready, errored};
 ghost use Rattle.drive.specs.Answers.{form_fises, fises_in, fises_done};
-ghost use Rattle.drive.specs.Transfer.{by_op};
+ghost use Rattle.drive.specs.Transfer.{by_op, unqueued_command};
 ghost use Rattle.drive.specs.declared.answer.Form.TheVariants.{Register};
 
 use crate::decision::Objection;
-use crate::transfer::Transfer;
+use crate::transfer::{Transfer, Way};
 use arrayvec::ArrayVec;
 use audit::Why;
 use audit::rules::Rule;
-use fis::{DmaSetup, Fis, PioSetup, RegD2h, SetDeviceBits, StatusBits, Tag};
+use fis::{DmaSetup, Fis, Lba, PioSetup, RegD2h, SetDeviceBits, StatusBits, Tag};
 use locking::Op;
 use shadow_mbr::SECTOR_SIZE;
 use std::alloc::Global;
-use trusted_cmds::Command;
+use trusted_cmds::{Command, Control};
 
 /// What the drive answers to an accepted FIS.
 #[derive(Drop)]
@@ -45,6 +45,10 @@ pub enum Form {
     PioIn,
     /// A PIO Setup FIS, and then a Register FIS: data that come from the host by PIO.
     PioOut,
+    /// A Register FIS with the signature of the device, and the code of tests that were passed.
+    Diagnosed,
+    /// A Register FIS with the power mode of the device.
+    Powered,
 }
 
 /// What a completed command gives: its FISes and its data.
@@ -72,6 +76,17 @@ const DATA_REQUESTED: u8 = 0x58;
 /// The status of a device that takes data in.
 const BUSY: u8 = 0xd0;
 
+/// The address and the count of the signature of an ATA device (ACS-3, device signatures).
+const SIGNATURE_LBA: u64 = 1;
+
+const SIGNATURE_COUNT: u16 = 1;
+
+/// The code of a device that passed its own tests (ACS-3, EXECUTE DEVICE DIAGNOSTIC).
+const PASSED: u8 = 1;
+
+/// The power mode of a device that is active, or idle (ACS-3, CHECK POWER MODE).
+const ACTIVE_OR_IDLE: u16 = 0xff;
+
 impl Accepted {
     /// Whether the command failed: the status is 51h.
     pub fn has_failed(&self) -> bool
@@ -92,6 +107,8 @@ impl Accepted {
                 fises.push(pio_fis(false, BUSY));
                 fises.push(answer_fis(true, READY, 0));
             }
+            Form::Diagnosed => fises.push(diagnosed_fis()),
+            Form::Powered => fises.push(power_fis()),
         }
         fises
     }
@@ -236,6 +253,32 @@ fn answer_fis(interrupt: bool, status: u8, error: u8) -> Fis
     })
 }
 
+/// A register FIS with the signature of the device, which passed its own tests.
+fn diagnosed_fis() -> Fis
+    ensures { result ≡ diagnosed_fis }
+{
+    Fis::D2h(RegD2h {
+        interrupt: true,
+        status: READY,
+        error: PASSED,
+        lba: Lba::new(SIGNATURE_LBA).unwrap(),
+        count: SIGNATURE_COUNT,
+        ..RegD2h::default()
+    })
+}
+
+/// A register FIS with the power mode of the device.
+fn power_fis() -> Fis
+    ensures { result ≡ power_fis }
+{
+    Fis::D2h(RegD2h {
+        interrupt: true,
+        status: READY,
+        count: ACTIVE_OR_IDLE,
+        ..RegD2h::default()
+    })
+}
+
 /// The PIO Setup FIS of a command whose data go by PIO, one for all blocks.
 fn pio_fis(to_host: bool, end_status: u8) -> Fis
     ensures { result ≡ pio_fis to_host end_status }
@@ -250,8 +293,8 @@ fn pio_fis(to_host: bool, end_status: u8) -> Fis
     })
 }
 
-/// The form of a command that was executed: those that read by PIO have a PIO Setup FIS alone, a send by PIO has it
-/// in front.
+/// The form of a command that was executed: those that read by PIO have a PIO Setup FIS alone, those that bring data by PIO
+/// have it in front.
 pub(crate) fn served_form(command: &Command) -> Form
     ensures { form_fises result false ready 0 ≡ served_fises command.now }
 {
@@ -260,8 +303,26 @@ pub(crate) fn served_form(command: &Command) -> Form
         Command::Receive { dma: false, .. } => Form::PioIn,
         Command::ReadLog10 { dma: false } => Form::PioIn,
         Command::ReadLog { dma: false, .. } => Form::PioIn,
-        Command::Identify => Form::PioIn,
+        Command::Identify | Command::ReadPio { .. } => Form::PioIn,
+        Command::WritePio { .. } => Form::PioOut,
+        Command::Control {
+            control: Control::Diagnose,
+        } => Form::Diagnosed,
+        Command::Control {
+            control: Control::CheckPowerMode,
+        } => Form::Powered,
         _ => Form::Register,
+    }
+}
+
+/// The form of a transfer that is not queued, and was permitted.
+pub(crate) fn moved_form(way: Way, transfer: &Transfer) -> Form
+    ensures { form_fises result false ready 0 ≡ served_fises (unqueued_command way transfer.now) }
+{
+    match (way, transfer.op) {
+        (Way::Pio, Op::Read) => Form::PioIn,
+        (Way::Pio, Op::Write) => Form::PioOut,
+        (Way::Dma | Way::Verify, _) => Form::Register,
     }
 }
 

@@ -13,7 +13,7 @@ ghost use Rattle.sp_cells.specs.Config.{Config};
 
 use crate::decision::{ABORTED, Cause, Decision};
 use crate::drive::Drive;
-use crate::transfer::{Held, Transfer};
+use crate::transfer::{Held, Transfer, Way};
 use audit::rules::Rule;
 use basics::Profile;
 use compacket::{ComId, MAX_COM_PACKET};
@@ -116,7 +116,7 @@ impl Drive {
     ghost use Rattle.drive.specs.Decision.{DecidesUnqueued, decision_event, transfer_deed, is_for_stack, IsDue, IsTrustedCommand};
     ghost use Rattle.drive.specs.State.{kept_facts};
     ghost use Rattle.drive.specs.Queue.{held_at};
-    ghost use Rattle.drive.specs.Transfer.{queued_command, unqueued_command};
+    ghost use Rattle.drive.specs.Transfer.{queued_command, unqueued_command, CanGo};
 
     /// The queued transfer of a FIS that the drive holds, as `decide` says: its tag is free, and it is permitted.
     #[tactic(auto, using(crate::proofs::Queued::held_so))]
@@ -261,10 +261,19 @@ impl Drive {
     {
         match command {
             Command::ReadDma { lba, count } => {
-                self.unqueued_transfer(h, Transfer::by(Op::Read, lba, count))
+                self.unqueued_transfer(h, Way::Dma, Transfer::by(Op::Read, lba, count))
             }
             Command::WriteDma { lba, count } => {
-                self.unqueued_transfer(h, Transfer::by(Op::Write, lba, count))
+                self.unqueued_transfer(h, Way::Dma, Transfer::by(Op::Write, lba, count))
+            }
+            Command::ReadPio { lba, count } => {
+                self.unqueued_transfer(h, Way::Pio, Transfer::by(Op::Read, lba, count))
+            }
+            Command::WritePio { lba, count } => {
+                self.unqueued_transfer(h, Way::Pio, Transfer::by(Op::Write, lba, count))
+            }
+            Command::Verify { lba, count } => {
+                self.unqueued_transfer(h, Way::Verify, Transfer::by(Op::Read, lba, count))
             }
             Command::Send { .. } if self.resets(&command) => Decision::Restarts(command),
             Command::Send { .. } if self.blocks_sid(&command) => self.block(h, command),
@@ -273,16 +282,18 @@ impl Drive {
             | Command::ReadLog10 { .. }
             | Command::Flush
             | Command::SetFeatures { .. }
-            | Command::ReadLog { .. } => Decision::Executes(command),
+            | Command::ReadLog { .. }
+            | Command::Control { .. } => Decision::Executes(command),
             Command::ReadQueued { .. } | Command::WriteQueued { .. } => aborts(Rule::NoCommand),
         }
     }
 
-    /// A transfer that is not queued: it moves its data where it is permitted, and else fails.
+    /// A transfer that is not queued: it moves its data in its way where it is permitted, and else fails.
     #[tactic(auto, using(crate::proofs::Policies::unqueued_moved, crate::proofs::Policies::unqueued_refused, crate::proofs::Policies::permitted))]
-    fn unqueued_transfer(&self, h: &RegH2d, transfer: Transfer) -> Decision
-        requires { command_read self.now.tper.store.config h.now
-            ≡ Ok (unqueued_command transfer, None) }
+    fn unqueued_transfer(&self, h: &RegH2d, way: Way, transfer: Transfer) -> Decision
+        requires reads { command_read self.now.tper.store.config h.now
+            ≡ Ok (unqueued_command way transfer, None) }
+        requires goes { CanGo way transfer.op }
         ensures event { (f : Facts) (payload : List ℕ) → decision_event
             (kept_facts self.now f) payload result
             ≡ unqueued_transfer (kept_facts self.now f) (transfer_deed transfer payload)
@@ -290,10 +301,13 @@ impl Drive {
         ensures due { IsDue self.now h.now result }
     {
         match self.policy(&transfer) {
-            Ok(is_shadowed) => Decision::Moves(Held {
-                transfer,
-                is_shadowed,
-            }),
+            Ok(is_shadowed) => Decision::Moves {
+                held: Held {
+                    transfer,
+                    is_shadowed,
+                },
+                way,
+            },
             Err(refusal) => Decision::Aborts {
                 error: refusal.error,
                 cause: refusal.cause,

@@ -3,7 +3,7 @@
 ghost use Rattle.std.specs.Prelude.{◌≡◌, ◌≤◌, ◌^◌, None, Some, Ok, IfSome};
 ghost use Rattle.drive.specs.Decision.{policy, told, reason, ruling};
 
-use crate::transfer::{Held, Transfer};
+use crate::transfer::{Held, Transfer, Way};
 use audit::Why;
 use audit::rules::Rule;
 use device_data::Failure;
@@ -36,8 +36,8 @@ pub enum Decision {
     FailsQueue { failure: Failure, cause: Cause },
     /// A queued transfer is held until it is completed.
     Holds { tag: Tag, held: Held },
-    /// An unqueued transfer moves its data.
-    Moves(Held),
+    /// An unqueued transfer moves its data, each in its way.
+    Moves { held: Held, way: Way },
     /// Another command that is not queued is executed.
     Executes(Command),
     /// The command resets the drive.

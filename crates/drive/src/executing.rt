@@ -2,12 +2,12 @@
 
 ghost use Rattle.std.specs.Prelude.{◌≡◌, ◌∷◌, List, length, IfOk, OnOk, OnErr};
 
-use crate::answer::{Accepted, Form, served_form};
+use crate::answer::{Accepted, moved_form, served_form};
 use crate::deciding::DISCOVERY_COM_ID;
 use crate::decision::{Decision, Objection, objection_to};
 use crate::drive::Drive;
 use crate::reset::PROGRAMMATIC;
-use crate::transfer::Held;
+use crate::transfer::{Held, Way};
 use fis::{H2D_LENGTH, RegH2d, Tag};
 use shadow_mbr::SECTOR_SIZE;
 use std::alloc::AllocError;
@@ -19,7 +19,7 @@ impl Drive {
     ghost use Rattle.std.specs.Prelude.{◌==◌, ◌||◌, ◌*◌, ℕ, true, false, slice_index};
     ghost use Rattle.fis.specs.H2d.{h2d_at};
     ghost use Rattle.fis.specs.Types.{h2d_type};
-    ghost use Rattle.shadow_mbr.specs.Stored.{sector_size};
+    ghost use Rattle.shadow_mbr.specs.Stored.{sector_at, sector_size};
     ghost use Rattle.history.specs.Tcg.{data_of, receive_data, commanded};
     ghost use Rattle.history.specs.Decisions.{is_session_com_id, discovery_com_id, received};
     ghost use Rattle.history.specs.Events.{Event};
@@ -28,6 +28,7 @@ impl Drive {
     ghost use Rattle.history.specs.History.{Act, Accept, log, event};
     ghost use Rattle.drive.specs.Decision.{decision_event, executed, is_for_stack, CanExecute, IsDue};
     ghost use Rattle.drive.specs.State.{kept_facts, KeepsDrive, Agrees};
+    ghost use Rattle.drive.specs.Transfer.{CanGo, StandsOnDrive, moved_bytes, payload_size_of, sector_then};
     ghost use Rattle.drive.specs.Answers.{IsDoneAndAnswered};
 
     /// Holds the queued transfer of a command.
@@ -91,9 +92,9 @@ impl Drive {
                 answer.set_held();
                 Ok(())
             }
-            Decision::Moves(held) => {
-                let bytes = self.carry_out(&held, payload)?;
-                answer.set_served(Form::Register, bytes, Objection::none());
+            Decision::Moves { held, way } => {
+                let bytes = self.move_so(&held, way, payload)?;
+                answer.set_served(moved_form(way, &held.transfer), bytes, Objection::none());
                 Ok(())
             }
             Decision::Executes(command) => {
@@ -112,6 +113,27 @@ impl Drive {
                 Ok(())
             }
             Decision::AsksStack(command) => self.ask_stack(h, command, payload, answer),
+        }
+    }
+
+    /// Moves the data of a transfer that is not queued: gives the bytes that go to the host.
+    fn move_so(&mut self, held: &Held, way: Way, payload: &[u8]) -> Result<Vec<u8>, AllocError>
+        requires length { length payload.now ≡ payload_size_of held.now.transfer }
+        requires fits { StandsOnDrive self.old.tper.store.config.sectors
+            self.old.tper.store.config.mbr_sectors held.now }
+        requires goes { CanGo way held.now.transfer.op }
+        ensures data { IfOk result (λ v. (f : Facts)
+            → v.items ≡ moved_bytes (kept_facts self.old f) way held.now) }
+        ensures tper { self.new.tper ≡ self.old.tper }
+        ensures queue { self.new.queue ≡ self.old.queue }
+        ensures settings { self.new.settings ≡ self.old.settings }
+        ensures media { OnOk result ((s : ℕ) → sector_at self.new.media s
+            ≡ sector_then held.now.transfer payload.now (sector_at self.old.media s) s) }
+        ensures err { OnErr result (self.new ≡ self.old) }
+    {
+        match way {
+            Way::Dma | Way::Pio => self.carry_out(held, payload),
+            Way::Verify => Ok(Vec::new(self.allocator())),
         }
     }
 
@@ -164,10 +186,14 @@ impl Drive {
                 Ok((Vec::new(self.allocator()), Objection::none()))
             }
             Command::ReadLog { pages, .. } => Ok((self.device_log(&pages)?, Objection::none())),
+            Command::Control { .. } => Ok((Vec::new(self.allocator()), Objection::none())),
             Command::ReadQueued { .. }
             | Command::WriteQueued { .. }
             | Command::ReadDma { .. }
-            | Command::WriteDma { .. } => unreachable!(),
+            | Command::WriteDma { .. }
+            | Command::ReadPio { .. }
+            | Command::WritePio { .. }
+            | Command::Verify { .. } => unreachable!(),
         }
     }
 

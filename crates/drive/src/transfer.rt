@@ -22,6 +22,17 @@ pub struct Held {
     pub is_shadowed: bool,
 }
 
+/// How the data of a transfer go that is not queued.
+#[derive(Clone, Copy, Debug, PartialEq, Eq)]
+pub enum Way {
+    /// By DMA.
+    Dma,
+    /// By PIO.
+    Pio,
+    /// Nowhere: the sectors are verified, and none of them goes to the host.
+    Verify,
+}
+
 /// How many sectors a command moves: 1 to 65,536.
 #[derive(Clone, Copy, Debug, PartialEq, Eq)]
 pub struct SectorCount {

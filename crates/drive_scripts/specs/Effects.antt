@@ -5,7 +5,7 @@ use Rattle.std.specs.Str.{bytes_eq}
 use Rattle.fis.specs.H2d.{h2d_at}
 use Rattle.trusted_cmds.specs.Commands.{reset_protocol, fis_of}
 use Rattle.trusted_cmds.specs.declared.command.Command.{Command}
-use Rattle.trusted_cmds.specs.declared.command.Command.TheVariants.{ReadDma, Receive, Identify, ReadLog10}
+use Rattle.trusted_cmds.specs.declared.command.Command.TheVariants.{ReadDma, ReadPio, Receive, Identify, ReadLog10}
 use Rattle.compacket.specs.Frames.{com_packet_size}
 use Rattle.compacket.specs.Spelling.{frame_bytes}
 use Rattle.history.specs.Opening.{Origin}
@@ -122,6 +122,7 @@ shown_bytes protocol com_id bytes =
 -- what a command that was served prints of its data
 abbrev pub served_text : Command → List ℕ → List ℕ
 served_text (ReadDma lba count) bytes = data_text bytes
+served_text (ReadPio lba count) bytes = data_text bytes
 served_text (Receive protocol com_id blocks dma) bytes =
     hex_text (shown_bytes protocol com_id bytes)
 served_text Identify bytes = hex_text bytes

@@ -115,7 +115,7 @@ fn print_served(report: &mut Report, command: &Command, bytes: &[u8]) -> Result<
     ensures { OnOk result (Prints report.old report.new (served_text command.now bytes.now ∷ [])) }
 {
     match *command {
-        Command::ReadDma { .. } => report.print_data(bytes)?,
+        Command::ReadDma { .. } | Command::ReadPio { .. } => report.print_data(bytes)?,
         Command::Receive {
             protocol,
             sp_specific,

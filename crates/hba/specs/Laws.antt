@@ -9,7 +9,7 @@ use Rattle.locking.specs.declared.range.Op.{Op}
 use Rattle.trusted_cmds.specs.declared.command.Command.{Command}
 use Rattle.history.specs.Answers.{errored, answer_fis, moved_fis}
 use Rattle.history.specs.Decisions.{aborted, on_drive, ranges_in_force}
-use Rattle.history.specs.DenialLaws.{Moves as MovesSectors, IsFree}
+use Rattle.history.specs.DenialLaws.{Reaches, IsFree}
 use Rattle.history.specs.Facts.{facts}
 use Rattle.history.specs.History.{Accept, Complete, log}
 use Rattle.history.specs.MethodLaws.{IsLookedAt}
@@ -69,13 +69,13 @@ HostFailureLaw =
     → (effect_after o (account o before) (Accept fis payload)).event.failed ≡ Some error
     → FailsSo o before tag fis payload error
 
--- And so each transfer that comes to the policy, of sectors on the drive, where a range denies it.
+-- And so each command that reaches data and comes to the policy, of sectors on the drive, where a range denies it.
 abbrev pub HostDenialLaw : Type 0
 HostDenialLaw =
     (o : Origin) (before : List Operation) (tag : ℕ) (fis payload : List ℕ) (command : Command)
     (slot : Option ℕ) (op : Op) (lba count : ℕ)
     → let f = facts o (log o (acts_of o before)) in
-    IsLookedAt f (Accept fis payload) command slot → MovesSectors command slot op lba count
+    IsLookedAt f (Accept fis payload) command slot → Reaches command slot op lba count
     → IsFree f slot → on_drive f lba count ≡ true
     → (IsPermitted (ranges_in_force f) op lba count → ⊥)
     → FailsSo o before tag fis payload aborted

@@ -46,6 +46,10 @@ is_command_fis (commands.ReadLog10 dma) tag = refl
 is_command_fis commands.Flush tag = refl
 is_command_fis (commands.SetFeatures feature) tag = refl
 is_command_fis (commands.ReadLog page dma) tag = refl
+is_command_fis (commands.ReadPio lba count) tag = refl
+is_command_fis (commands.WritePio lba count) tag = refl
+is_command_fis (commands.Verify lba count) tag = refl
+is_command_fis (commands.Control control) tag = refl
 
 pub issued_moves : (o : Origin) (list : List Step) (tag : ℕ) (put : Put) → IsLawful o list
     → stage (trace o list) tag ≡ Issued put → bytes_moved put.command ≤ buffer_size
@@ -71,6 +75,10 @@ brought_small (commands.ReadLog10 dma) few = omega arith
 brought_small commands.Flush few = omega arith
 brought_small (commands.SetFeatures feature) few = omega arith
 brought_small (commands.ReadLog page dma) few = omega arith
+brought_small (commands.ReadPio lba count) few = omega arith
+brought_small (commands.WritePio lba count) few = omega (arith, few)
+brought_small (commands.Verify lba count) few = omega arith
+brought_small (commands.Control control) few = omega arith
 
 unqueued_small : (b : Bool) (n : ℕ) → n ≤ buffer_size → (if b then 0 else n) ≤ buffer_size
 unqueued_small true n h = omega arith

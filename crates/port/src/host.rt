@@ -110,7 +110,10 @@ fn is_to_device(command: Command) -> bool
     ensures { result ≡ to_device command }
 {
     match command {
-        Command::WriteQueued { .. } | Command::WriteDma { .. } | Command::Send { .. } => true,
+        Command::WriteQueued { .. }
+        | Command::WriteDma { .. }
+        | Command::WritePio { .. }
+        | Command::Send { .. } => true,
         Command::ReadQueued { .. }
         | Command::ReadDma { .. }
         | Command::Receive { .. }
@@ -118,7 +121,10 @@ fn is_to_device(command: Command) -> bool
         | Command::ReadLog10 { .. }
         | Command::Flush
         | Command::SetFeatures { .. }
-        | Command::ReadLog { .. } => false,
+        | Command::ReadLog { .. }
+        | Command::ReadPio { .. }
+        | Command::Verify { .. }
+        | Command::Control { .. } => false,
     }
 }
 
@@ -131,11 +137,16 @@ fn bytes_moved(command: Command) -> u32
         Command::ReadQueued { count, .. }
         | Command::WriteQueued { count, .. }
         | Command::ReadDma { count, .. }
-        | Command::WriteDma { count, .. } => count,
+        | Command::WriteDma { count, .. }
+        | Command::ReadPio { count, .. }
+        | Command::WritePio { count, .. } => count,
         Command::Send { blocks, .. } | Command::Receive { blocks, .. } => u32::from(blocks),
         Command::Identify | Command::ReadLog10 { .. } => 1,
         Command::ReadLog { pages, .. } => u32::from(pages.count()),
-        Command::Flush | Command::SetFeatures { .. } => 0,
+        Command::Flush
+        | Command::SetFeatures { .. }
+        | Command::Verify { .. }
+        | Command::Control { .. } => 0,
     };
     SECTOR_SIZE as u32 * blocks
 }

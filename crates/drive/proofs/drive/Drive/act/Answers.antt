@@ -36,8 +36,8 @@ returns-in_ok-bytes-in-Moves-clause-done c = λ o acts k.
     let e = c.set_served.ensures in
     let m = c.in_ok-bytes-in-Moves.ensures in
     let due = subst (λ (x : Decision). IsDue c.args.self.now c.args.h.now x) c.in-Moves.is c.requires.due in
-    moves-done c.args.h.now c.args.self.now c.carry_out.new.self o (log o acts) c.args.payload.now c.in-Moves.held c.args.decision c.set_served.new.self c.in-Moves.is due m.tper m.queue m.settings m.media
-    (record { status_is = e.status; error_is = e.error; held_is = e.held; fises_are = e.fises; bytes_are = e.bytes ∙ m.data (facts o (log o acts)); denied_is = e.denied ∙ c.none.ensures.denied; rule_is = e.rule ∙ c.none.ensures.rule }) k
+    moves-done c.args.h.now c.args.self.now c.move_so.new.self o (log o acts) c.args.payload.now c.in-Moves.held c.in-Moves.way c.args.decision c.set_served.new.self c.in-Moves.is due m.tper m.queue m.settings m.media
+    (record { status_is = e.status; error_is = e.error; held_is = e.held; fises_are = e.fises ∙ c.moved_form.ensures; bytes_are = e.bytes ∙ m.data (facts o (log o acts)); denied_is = e.denied ∙ c.none.ensures.denied; rule_is = e.rule ∙ c.none.ensures.rule }) k
 
 pub returns-in_ok-bytes-in-Executes-clause-done : goal.returns-in_ok-bytes-in-Executes-clause-done
 returns-in_ok-bytes-in-Executes-clause-done c = λ o acts k.
@@ -68,7 +68,12 @@ returns-in-AsksStack-clause-done c =
     → IsDoneAndAnswered (facts o (log o acts)) c.args.h.now (decision_event (facts o (log o acts)) c.args.payload.now x) c.ask_stack.new.self o (log o acts) c.ask_stack.new.answer))
     (sym c.in-AsksStack.is) c.ask_stack.ensures.done
 
-pub carry_out-requires-clause-length : goal.carry_out-requires-clause-length
-carry_out-requires-clause-length c =
+pub move_so-requires-clause-length : goal.move_so-requires-clause-length
+move_so-requires-clause-length c =
     let due = subst (λ (x : Decision). IsDue c.args.self.now c.args.h.now x) c.in-Moves.is c.requires.due in
-    c.requires.payload ∙ moved-size c.args.self.now.tper.store.config.profile c.args.h.now c.in-Moves.held.transfer due.reads
+    c.requires.payload ∙ moved-size c.args.self.now.tper.store.config.profile c.args.h.now c.in-Moves.way c.in-Moves.held.transfer due.goes due.reads
+
+pub move_so-requires-clause-goes : goal.move_so-requires-clause-goes
+move_so-requires-clause-goes c =
+    let due = subst (λ (x : Decision). IsDue c.args.self.now c.args.h.now x) c.in-Moves.is c.requires.due in
+    due.goes

@@ -49,6 +49,11 @@ returns-in-Flush-clause-kept c = λ o acts k.
     subst (λ (x : Command). KeepsDrive c.args.self.now o (executed (facts o (log o acts)) c.args.payload.now x ∷ log o acts)) (sym c.in-Flush.is)
     (nothing-keeps c.args.self.now o (log o acts) _ refl k)
 
+pub returns-in-Control-clause-kept : goal.returns-in-Control-clause-kept
+returns-in-Control-clause-kept c = λ o acts k.
+    subst (λ (x : Command). KeepsDrive c.args.self.now o (executed (facts o (log o acts)) c.args.payload.now x ∷ log o acts)) (sym c.in-Control.is)
+    (nothing-keeps c.args.self.now o (log o acts) _ refl k)
+
 pub returns-in-SetFeatures-clause-kept : goal.returns-in-SetFeatures-clause-kept
 returns-in-SetFeatures-clause-kept c = λ o acts k.
     subst (λ (x : Command). KeepsDrive c.choose.new.self o (executed (facts o (log o acts)) c.args.payload.now x ∷ log o acts)) (sym c.in-SetFeatures.is)
