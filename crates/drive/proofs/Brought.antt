@@ -13,7 +13,7 @@ use Rattle.trusted_cmds.specs.declared.control.Control as controls
 use Rattle.trusted_cmds.specs.declared.feature.Feature.{Feature}
 use Rattle.trusted_cmds.specs.declared.log_pages.LogPages.{LogPages}
 use Rattle.trusted_cmds.specs.Commands.{reading, fault_of, read_unless, command_without_sectors, read_queued, write_queued, read_dma, write_dma, is_send, is_receive, is_log_read, identify_device, read_log_dma, set_features, has_lba_bit, sectors, blocks, sector_size, payload_length, short_lba, short_sectors, read_sectors_ext, verify_sectors_ext}
-use Rattle.trusted_cmds.specs.General.{reads_pio, writes_pio, verifies, moves_more, writes_more, first_of, sectors_of, control_named, moving, more, read_sectors, read_multiple, read_multiple_ext, verify_sectors}
+use Rattle.trusted_cmds.specs.General.{reads_pio, writes_pio, verifies, moves_more, writes_more, first_moved, sectors_moved, control_named, moving, more, read_sectors, read_multiple, read_multiple_ext, verify_sectors}
 use Rattle.trusted_cmds.specs.Profiles.{reading_in, read_or, beside, payload_length_in, field_payload_length, short_read_dma, short_write_dma, short_flush_cache, is_short_transfer, short_transfer, beside_without_sectors, feature_named, pages_named}
 use Rattle.history.proofs.SectorProofs.{write-size, pio-write-size}
 use Rattle.drive.specs.Transfer.{by_op, unqueued_command, payload_size_of, CanGo}
@@ -116,7 +116,7 @@ lengths h code =
     (cond (code == write_dma) (sector_size * sectors h.count) (cond (is_send code) (sector_size * blocks h) 0))
 
 abbrev opal-lengths : RegH2d → ℕ → ℕ
-opal-lengths h code = cond (writes_more code) (sector_size * sectors_of h) (lengths h code)
+opal-lengths h code = cond (writes_more code) (sector_size * sectors_moved h) (lengths h code)
 
 base-none : (h : RegH2d) → (h.command == read_dma) ≡ true → payload_length h ≡ 0
 base-none h is =
@@ -145,8 +145,8 @@ verify-none h false true first second any = opal-none h verify_sectors_ext secon
 verify-none h false false first second any = absurd (false_true any)
 
 moving-none : (h : RegH2d) (r w v : Bool) (its : Command) → reads_pio h.command ≡ r → verifies h.command ≡ v → is_read its ≡ true
-    → cond r (ReadPio (first_of h) (sectors_of h)) (cond w (WritePio (first_of h) (sectors_of h))
-    (cond v (Verify (first_of h) (sectors_of h)) (WriteDma (first_of h) (sectors_of h)))) ≡ its
+    → cond r (ReadPio (first_moved h) (sectors_moved h)) (cond w (WritePio (first_moved h) (sectors_moved h))
+    (cond v (Verify (first_moved h) (sectors_moved h)) (WriteDma (first_moved h) (sectors_moved h)))) ≡ its
     → payload_length_in Opal h ≡ 0
 moving-none h true w v its reads verified is g =
     pio-none h (h.command == read_sectors) (h.command == read_sectors_ext) (h.command == read_multiple) (h.command == read_multiple_ext) refl refl refl refl reads

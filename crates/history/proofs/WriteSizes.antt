@@ -13,7 +13,7 @@ use Rattle.trusted_cmds.specs.declared.control.Control as controls
 use Rattle.trusted_cmds.specs.declared.feature.Feature.{Feature}
 use Rattle.trusted_cmds.specs.declared.log_pages.LogPages.{LogPages}
 use Rattle.trusted_cmds.specs.Commands.{sectors, blocks, read_queued, write_queued, read_dma as read_dma_code, write_dma as write_dma_code, trusted_send, trusted_send_dma, trusted_receive_dma, identify_device, read_log_dma, set_features, is_send, is_receive, is_log_read, protocol_of, sp_specific_of, has_lba_bit, fault_of, read_unless, reading, payload_length, short_lba, short_sectors}
-use Rattle.trusted_cmds.specs.General.{reads_pio, writes_pio, verifies, writes_through, moves_more, writes_more, first_of, sectors_of, control_named, moving, more}
+use Rattle.trusted_cmds.specs.General.{reads_pio, writes_pio, verifies, writes_through, moves_more, writes_more, first_moved, sectors_moved, control_named, moving, more}
 use Rattle.trusted_cmds.specs.Profiles.{reading_in, payload_length_in, field_payload_length, beside, beside_without_sectors, read_or, is_short_transfer, short_transfer, short_read_dma, short_write_dma, short_flush_cache, feature_named, pages_named}
 use Rattle.history.specs.DenialLaws.{Reaches, read_queued as reaches_read_queued, write_queued as reaches_write_queued, read_dma, write_dma, read_pio, write_pio, verify}
 
@@ -156,10 +156,10 @@ field-write h c count (Err error) (Some d) is m k w =
 -- what the opal profile reads beside
 record IsMoreWrite (h : RegH2d) (count : ℕ) : Type 0 where
   code_is : writes_more h.command ≡ true
-  count_is : sectors_of h ≡ count
+  count_is : sectors_moved h ≡ count
 
 moved : (h : RegH2d) (a b c d : Bool) (count : ℕ) → writes_pio h.command ≡ b → writes_through h.command ≡ d → (a || b || c || d) ≡ true
-    → written (cond a (ReadPio (first_of h) (sectors_of h)) (cond b (WritePio (first_of h) (sectors_of h)) (cond c (Verify (first_of h) (sectors_of h)) (WriteDma (first_of h) (sectors_of h))))) ≡ Some count
+    → written (cond a (ReadPio (first_moved h) (sectors_moved h)) (cond b (WritePio (first_moved h) (sectors_moved h)) (cond c (Verify (first_moved h) (sectors_moved h)) (WriteDma (first_moved h) (sectors_moved h))))) ≡ Some count
     → IsMoreWrite h count
 moved h true b c d count pio through any g = absurd (none-some g)
 moved h false true c d count pio through any g = record { code_is = ap (λ x. x || writes_through h.command) pio; count_is = some-same g }
@@ -185,11 +185,11 @@ opal-size : (h : RegH2d) (c : Command) (count : ℕ) (r : Result (Command × Opt
     → ◌≡◌ {A = Result (Command × Option ℕ) CommandError} (read_or r x) (Ok (c, None)) → written c ≡ Some count → payload_length_in Opal h ≡ 512 * count
 opal-size h c count (Ok y) x is m k w =
     let one = field-write h c count (reading h) (beside h) refl refl (is ∙ k) w in
-    ap (λ b. cond b (512 * sectors_of h) (field_payload_length h)) one.other ∙ one.size
+    ap (λ b. cond b (512 * sectors_moved h) (field_payload_length h)) one.other ∙ one.size
 opal-size h c count (Err error) None is m k w = absurd (not-ok k)
 opal-size h c count (Err error) (Some d) is m k w =
     let one = more-write h d count m (ap written (ok-command k) ∙ w) in
-    ap (λ b. cond b (512 * sectors_of h) (field_payload_length h)) one.code_is ∙ ap (λ n. 512 * n) one.count_is
+    ap (λ b. cond b (512 * sectors_moved h) (field_payload_length h)) one.code_is ∙ ap (λ n. 512 * n) one.count_is
 
 size-in : (p : Profile) (h : RegH2d) (c : Command) (count : ℕ) → reading_in p h ≡ Ok (c, None) → written c ≡ Some count → payload_length_in p h ≡ 512 * count
 size-in Base h c count g w = base-size h count (read-write h c count (fault_of h) g w)

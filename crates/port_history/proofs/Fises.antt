@@ -2,7 +2,7 @@
 use Rattle.basics.specs.declared.profile.Profile.TheVariants.{Base, Field, Opal}
 use Rattle.basics.specs.declared.profile.Profile.{Profile}
 use Rattle.trusted_cmds.specs.Profiles.{payload_length_in, field_payload_length, short_write_dma, short_sectors}
-use Rattle.trusted_cmds.specs.General.{is_general, writes_more, sectors_of}
+use Rattle.trusted_cmds.specs.General.{is_general, writes_more, sectors_moved}
 use Rattle.sp_cells.specs.Config.{Config}
 use Rattle.port_history.specs.Laws.{is_of_request, read_as, IsSized}
 use Rattle.std.proofs.Common.{◌≡◌, ◌∙◌, ◌+◌, ◌*◌, ◌/◌, ◌%◌, ◌^◌, ◌<◌, ◌≤◌, ◌==◌, ℕ, true, false, List, [], ◌∷◌, length, slice_index, if◌then◌else◌, None, refl, ap, arith, inl, inr, cond, Bool, sym}
@@ -277,7 +277,7 @@ any_profile Field command tag none =
     (old-code command tag none).not_short
 any_profile Opal command tag none =
     ap
-    (λ (b : Bool). cond b (sector_size * sectors_of (fis_of command tag)) (field_payload_length (fis_of command tag)))
+    (λ (b : Bool). cond b (sector_size * sectors_moved (fis_of command tag)) (field_payload_length (fis_of command tag)))
     (old-code command tag none).not_more
     ∙ any_profile Field command tag none
 

@@ -11,7 +11,7 @@ use Rattle.trusted_cmds.specs.declared.control.Control as controls
 use Rattle.trusted_cmds.specs.declared.control.Control.TheVariants.{SetMultiple, Idle, CheckPowerMode, Diagnose}
 use Rattle.trusted_cmds.specs.Commands.{sector_size, has_lba_bit, write_dma, is_send, is_known_code, fault_of, read_unless}
 use Rattle.trusted_cmds.specs.Profiles.{beside, read_or, reading_in, payload_length_in, field_payload_length, short_write_dma}
-use Rattle.trusted_cmds.specs.General.{CarriesMore, reads_pio, writes_pio, verifies, writes_more, moves_more, names_control, control_named, first_of, sectors_of, moving, more}
+use Rattle.trusted_cmds.specs.General.{CarriesMore, reads_pio, writes_pio, verifies, writes_more, moves_more, names_control, control_named, first_moved, sectors_moved, moving, more}
 use Rattle.trusted_cmds.proofs.Apart.{reads-at, writes-at, verifies-at, through-at, control-at, is_beside, beside-none}
 use Rattle.trusted_cmds.proofs.Profiles.{unknown as unknown-code}
 
@@ -34,20 +34,20 @@ moving-carries h c is moves device e =
     by (reads_pio h.command) (writes_pio h.command) (verifies h.command) refl refl refl e
   where
     by : (a b v : Bool) → reads_pio h.command ≡ a → writes_pio h.command ≡ b → verifies h.command ≡ v
-        → cond a (ReadPio (first_of h) (sectors_of h)) (cond b (WritePio (first_of h) (sectors_of h))
-        (cond v (Verify (first_of h) (sectors_of h)) (WriteDma (first_of h) (sectors_of h)))) ≡ c
+        → cond a (ReadPio (first_moved h) (sectors_moved h)) (cond b (WritePio (first_moved h) (sectors_moved h))
+        (cond v (Verify (first_moved h) (sectors_moved h)) (WriteDma (first_moved h) (sectors_moved h)))) ≡ c
         → CarriesMore h c None
     by true b v a-is b-is v-is e =
-        carries h (ReadPio (first_of h) (sectors_of h)) c e
+        carries h (ReadPio (first_moved h) (sectors_moved h)) c e
         (record { is_command = is; code_is = a-is; lba = refl; count = refl; device = device })
     by false true v a-is b-is v-is e =
-        carries h (WritePio (first_of h) (sectors_of h)) c e
+        carries h (WritePio (first_moved h) (sectors_moved h)) c e
         (record { is_command = is; code_is = b-is; lba = refl; count = refl; device = device })
     by false false true a-is b-is v-is e =
-        carries h (Verify (first_of h) (sectors_of h)) c e
+        carries h (Verify (first_moved h) (sectors_moved h)) c e
         (record { is_command = is; code_is = v-is; lba = refl; count = refl; device = device })
     by false false false a-is b-is v-is e =
-        carries h (WriteDma (first_of h) (sectors_of h)) c e
+        carries h (WriteDma (first_moved h) (sectors_moved h)) c e
         (record {
           is_command = is;
           code_is = last-of _ _ _ _ moves a-is b-is v-is;
@@ -92,11 +92,11 @@ no-bytes : (h : RegH2d) → brings h.command ≡ false → field_payload_length 
 no-bytes h not = grind arith
 
 none-brought : (h : RegH2d) → writes_more h.command ≡ false → brings h.command ≡ false → payload_length_in Opal h ≡ 0
-none-brought h not none = ap (λ b. cond b (sector_size * sectors_of h) (field_payload_length h)) not ∙ no-bytes h none
+none-brought h not none = ap (λ b. cond b (sector_size * sectors_moved h) (field_payload_length h)) not ∙ no-bytes h none
 
-all-brought : (h : RegH2d) (count : ℕ) → writes_more h.command ≡ true → sectors_of h ≡ count → payload_length_in Opal h ≡ sector_size * count
+all-brought : (h : RegH2d) (count : ℕ) → writes_more h.command ≡ true → sectors_moved h ≡ count → payload_length_in Opal h ≡ sector_size * count
 all-brought h count is are =
-    ap (λ b. cond b (sector_size * sectors_of h) (field_payload_length h)) is ∙ ap (λ n. sector_size * n) are
+    ap (λ b. cond b (sector_size * sectors_moved h) (field_payload_length h)) is ∙ ap (λ n. sector_size * n) are
 
 carried-size : (h : RegH2d) (c : Command) → CarriesMore h c None → payload_length_in Opal h ≡ size_with c
 carried-size h (ReadPio lba count) k =
@@ -172,7 +172,7 @@ as-many h x g = by (writes_more h.command) refl
   where
     by : (b : Bool) → writes_more h.command ≡ b → payload_length_in Opal h ≡ payload_length_in Field h
     by true is = absurd (not-by-field h x is g)
-    by false is = ap (λ b. cond b (sector_size * sectors_of h) (field_payload_length h)) is
+    by false is = ap (λ b. cond b (sector_size * sectors_moved h) (field_payload_length h)) is
 
 ok-same : {p q : Command × Option ℕ} → ◌≡◌ {A = Result (Command × Option ℕ) CommandError} (Ok p) (Ok q) → p ≡ q
 ok-same h = cc

@@ -34,8 +34,8 @@ verify_sectors = 0x40
 abbrev pub write_dma_fua : ℕ
 write_dma_fua = 0x3d
 
-abbrev pub idle : ℕ
-idle = 0xe3
+abbrev pub idle_by_timer : ℕ
+idle_by_timer = 0xe3
 
 -- Which transfer a code asks for.
 abbrev pub reads_pio : ℕ → Bool
@@ -67,24 +67,24 @@ is_short_code code =
     code == read_sectors || code == read_multiple || code == write_sectors
     || code == write_multiple || code == verify_sectors
 
-abbrev pub first_of : RegH2d → ℕ
-first_of h = if is_short_code h.command then short_lba h else h.lba
+abbrev pub first_moved : RegH2d → ℕ
+first_moved h = if is_short_code h.command then short_lba h else h.lba
 
-abbrev pub sectors_of : RegH2d → ℕ
-sectors_of h = if is_short_code h.command then short_sectors h else sectors h.count
+abbrev pub sectors_moved : RegH2d → ℕ
+sectors_moved h = if is_short_code h.command then short_sectors h else sectors h.count
 
 -- What such a transfer has in its fields, whose code is as it says.
 pub record IsMoving (h : RegH2d) (is_code : Bool) (first sectors_asked : ℕ) : Type 0 where
   pub is_command : h.is_command ≡ true
   pub code_is : is_code ≡ true
-  pub lba : first_of h ≡ first
-  pub count : sectors_of h ≡ sectors_asked
+  pub lba : first_moved h ≡ first
+  pub count : sectors_moved h ≡ sectors_asked
   pub device : has_lba_bit h.device ≡ true
 
 -- SET MULTIPLE MODE has the sectors of a block in Count 7:0.
 abbrev pub names_control : controls.Control → RegH2d → Bool
 names_control SetMultiple h = h.command == set_multiple && h.count % 256 == sectors_in_block
-names_control Idle h = h.command == idle_immediate || h.command == idle
+names_control Idle h = h.command == idle_immediate || h.command == idle_by_timer
 names_control CheckPowerMode h = h.command == check_power_mode
 names_control Diagnose h = h.command == execute_diagnostic
 
@@ -105,16 +105,16 @@ CarriesMore h _ _ = ⊥
 abbrev pub control_named : RegH2d → Option controls.Control
 control_named h =
     if h.command == set_multiple && h.count % 256 == sectors_in_block then Some SetMultiple
-    else (if h.command == idle_immediate || h.command == idle then Some Idle
+    else (if h.command == idle_immediate || h.command == idle_by_timer then Some Idle
     else (if h.command == check_power_mode then Some CheckPowerMode
     else (if h.command == execute_diagnostic then Some Diagnose else None)))
 
 abbrev pub moving : RegH2d → Command
 moving h =
-    if reads_pio h.command then ReadPio (first_of h) (sectors_of h)
-    else (if writes_pio h.command then WritePio (first_of h) (sectors_of h)
-    else (if verifies h.command then Verify (first_of h) (sectors_of h)
-    else WriteDma (first_of h) (sectors_of h)))
+    if reads_pio h.command then ReadPio (first_moved h) (sectors_moved h)
+    else (if writes_pio h.command then WritePio (first_moved h) (sectors_moved h)
+    else (if verifies h.command then Verify (first_moved h) (sectors_moved h)
+    else WriteDma (first_moved h) (sectors_moved h)))
 
 abbrev pub more : RegH2d → Option Command
 more h =

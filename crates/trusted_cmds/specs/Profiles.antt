@@ -12,7 +12,7 @@ use Rattle.trusted_cmds.specs.declared.feature.Feature.TheVariants.{WriteCache, 
 use Rattle.trusted_cmds.specs.declared.log_pages.LogPages.{LogPages}
 use Rattle.trusted_cmds.specs.declared.log_pages.LogPages.TheVariants.{Directory, IdentifyData}
 use Rattle.trusted_cmds.specs.Commands.{sector_size, has_lba_bit, is_log_read, read_log, read_log_dma, set_features, identify_data_address, enable_write_cache, disable_write_cache, enable_look_ahead, disable_look_ahead, set_transfer_mode, by_dma, short_lba, short_sectors, Carries, IsPlain, payload_length, reading}
-use Rattle.trusted_cmds.specs.General.{CarriesMore, more, is_general, writes_more, sectors_of}
+use Rattle.trusted_cmds.specs.General.{CarriesMore, more, is_general, writes_more, sectors_moved}
 
 -- The codes of the spellings (ACS-3, "Command codes").
 abbrev pub short_read_dma : ℕ
@@ -183,4 +183,4 @@ abbrev pub payload_length_in : Profile → RegH2d → ℕ
 payload_length_in Base h = payload_length h
 payload_length_in Field h = field_payload_length h
 payload_length_in Opal h =
-    if writes_more h.command then sector_size * sectors_of h else field_payload_length h
+    if writes_more h.command then sector_size * sectors_moved h else field_payload_length h

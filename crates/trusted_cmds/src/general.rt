@@ -3,7 +3,7 @@
 ghost use Rattle.std.specs.Prelude.{◌≡◌, ◌<◌, ◌≤◌, Option, Some, None, IfSome, ℕ, true, false};
 ghost use Rattle.trusted_cmds.specs.declared.command.Command.{Command};
 ghost use Rattle.trusted_cmds.specs.Commands.{IsCounted, most_sectors};
-ghost use Rattle.trusted_cmds.specs.General.{CarriesMore, moves_more, first_of, sectors_of, moving, more};
+ghost use Rattle.trusted_cmds.specs.General.{CarriesMore, moves_more, first_moved, sectors_moved, moving, more};
 
 use crate::codes::{is_short_code, moves_more, reads_pio, verifies, writes_pio};
 use crate::command::Command;
@@ -12,8 +12,8 @@ use crate::fields::{has_lba_bit, sectors, short_lba, short_sectors};
 use fis::RegH2d;
 
 /// The first sector of such a transfer.
-fn first_of(h: &RegH2d) -> u64
-    ensures { result ≡ first_of h.now }
+fn first_moved(h: &RegH2d) -> u64
+    ensures { result ≡ first_moved h.now }
 {
     if is_short_code(h.command) {
         short_lba(h)
@@ -23,8 +23,8 @@ fn first_of(h: &RegH2d) -> u64
 }
 
 /// How many sectors such a transfer has.
-pub(crate) fn sectors_of(h: &RegH2d) -> u32
-    ensures value { result ≡ sectors_of h.now }
+pub(crate) fn sectors_moved(h: &RegH2d) -> u32
+    ensures value { result ≡ sectors_moved h.now }
     ensures some { 0 < result }
     ensures most { result ≤ most_sectors }
 {
@@ -41,8 +41,8 @@ fn moving(h: &RegH2d) -> Command
     ensures value { result ≡ moving h.now }
     ensures counted { IsCounted result }
 {
-    let lba = first_of(h);
-    let count = sectors_of(h);
+    let lba = first_moved(h);
+    let count = sectors_moved(h);
     if reads_pio(h.command) {
         Command::ReadPio { lba, count }
     } else if writes_pio(h.command) {

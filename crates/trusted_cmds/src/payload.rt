@@ -7,7 +7,7 @@ ghost use Rattle.fis.specs.declared.h2d.RegH2d.{RegH2d};
 
 use crate::codes::{SHORT_WRITE_DMA, TRUSTED_SEND, TRUSTED_SEND_DMA, WRITE_DMA, writes_more};
 use crate::fields::{blocks, sectors, short_sectors};
-use crate::general::sectors_of;
+use crate::general::sectors_moved;
 use basics::Profile;
 use fis::RegH2d;
 
@@ -34,7 +34,7 @@ pub fn payload_len(profile: Profile, h: &RegH2d) -> usize
     ensures { result ≡ payload_length_in profile h.now }
 {
     match profile {
-        Profile::Opal if writes_more(h.command) => SECTOR_SIZE * sectors_of(h) as usize,
+        Profile::Opal if writes_more(h.command) => SECTOR_SIZE * sectors_moved(h) as usize,
         Profile::Field | Profile::Opal if h.command == SHORT_WRITE_DMA => {
             SECTOR_SIZE * short_sectors(h) as usize
         }
