@@ -15,7 +15,7 @@ use Rattle.trusted_cmds.specs.declared.log_pages.LogPages.{LogPages}
 use Rattle.trusted_cmds.specs.Commands.{reading, fault_of, read_unless, command_without_sectors, read_queued, write_queued, read_dma, write_dma, is_send, is_receive, is_log_read, identify_device, read_log_dma, set_features, has_lba_bit, sectors, blocks, sector_size, payload_length, short_lba, short_sectors, read_sectors_ext, verify_sectors_ext}
 use Rattle.trusted_cmds.specs.General.{reads_pio, writes_pio, verifies, moves_more, writes_more, first_moved, sectors_moved, control_named, moving, more, read_sectors, read_multiple, read_multiple_ext, verify_sectors}
 use Rattle.trusted_cmds.specs.Profiles.{reading_in, read_or, beside, payload_length_in, field_payload_length, short_read_dma, short_write_dma, short_flush_cache, is_short_transfer, short_transfer, beside_without_sectors, feature_named, pages_named}
-use Rattle.history.proofs.SectorProofs.{write-size, pio-write-size}
+use Rattle.history.proofs.WriteSizes.{write-size, pio-write-size}
 use Rattle.drive.specs.Transfer.{by_op, unqueued_command, payload_size_of, CanGo}
 use Rattle.drive.specs.declared.transfer.Transfer.{Transfer}
 use Rattle.drive.specs.declared.transfer.Way.{Way}

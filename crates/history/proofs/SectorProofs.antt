@@ -39,7 +39,7 @@ use Rattle.history.proofs.QuietProofs.{tcg_quiet}
 use Rattle.history.proofs.HeldProofs.{held_law}
 use Rattle.history.proofs.WriteProofs.{write_law}
 use Rattle.history.proofs.Payloads.{payload-of-command}
-use Rattle.history.proofs.WriteSizes.{write-size}
+use Rattle.history.proofs.WriteSizes.{size-of-write}
 use Rattle.sp_cells.specs.Resets.{programmatic}
 use Rattle.audit.specs.declared.rules.rule.Rule.TheVariants.{NoCommand, Unreadable, Mixed, BeyondDrive, SidKept, NoFrame, Discarded, BrokenOff}
 use Rattle.compacket.specs.declared.session.Named.{Named}
@@ -159,7 +159,7 @@ wrote-none f act place lba bytes fed le g =
     let w : Writes tcg f act lba bytes = write_law tcg tcg_quiet f act lba bytes g in
     let size : length w.looked.payload ≡ payload_length_in f.config.profile (h2d_at w.looked.fis) =
     subst (IsFed f) w.looked.accepts fed ∙ payload-of-command f.config w.looked.fis w.looked.kind in
-    no-part place lba w.count f.config.sectors bytes (ap length w.payload ∙ size ∙ write-size f.config.profile (h2d_at w.looked.fis) w.command lba w.count w.writes w.looked.reads) w.on_drive le
+    no-part place lba w.count f.config.sectors bytes (ap length w.payload ∙ size ∙ size-of-write f.config.profile (h2d_at w.looked.fis) w.command lba w.count w.writes w.looked.reads) w.on_drive le
 
 -- the transfer of a held write
 record Is (l n lba count : ℕ) : Type 0 where

@@ -9,12 +9,11 @@ use Rattle.locking.specs.declared.range.Op.TheVariants.{Write}
 use Rattle.trusted_cmds.specs.declared.command.Command.{Command}
 use Rattle.trusted_cmds.specs.declared.command.Command.TheVariants.{ReadQueued, WriteQueued, ReadDma, WriteDma, Send, Receive, Identify, ReadLog10, Flush, SetFeatures, ReadLog, ReadPio, WritePio, Verify, Control}
 use Rattle.trusted_cmds.specs.declared.command.CommandError.{CommandError}
-use Rattle.trusted_cmds.specs.declared.control.Control as controls
 use Rattle.trusted_cmds.specs.declared.feature.Feature.{Feature}
 use Rattle.trusted_cmds.specs.declared.log_pages.LogPages.{LogPages}
 use Rattle.trusted_cmds.specs.Commands.{sectors, blocks, read_queued, write_queued, read_dma as read_dma_code, write_dma as write_dma_code, trusted_send, trusted_send_dma, trusted_receive_dma, identify_device, read_log_dma, set_features, is_send, is_receive, is_log_read, protocol_of, sp_specific_of, has_lba_bit, fault_of, read_unless, reading, payload_length, short_lba, short_sectors}
-use Rattle.trusted_cmds.specs.General.{reads_pio, writes_pio, verifies, writes_through, moves_more, writes_more, first_moved, sectors_moved, control_named, moving, more}
 use Rattle.trusted_cmds.specs.Profiles.{reading_in, payload_length_in, field_payload_length, beside, beside_without_sectors, read_or, is_short_transfer, short_transfer, short_read_dma, short_write_dma, short_flush_cache, feature_named, pages_named}
+use Rattle.trusted_cmds.proofs.Sizes.{size_with, more-size, OpalReads, as_field, by_more, opal-reads}
 use Rattle.history.specs.DenialLaws.{Reaches, read_queued as reaches_read_queued, write_queued as reaches_write_queued, read_dma, write_dma, read_pio, write_pio, verify}
 
 -- the sectors of a command that is such a write
@@ -130,71 +129,49 @@ short-write h c count g w = by_command (not h.is_command) (is_short_transfer h.c
     by_command false true false is k = absurd (none-some k)
     by_command false false d is k = absurd (none-some (sym (no-plain h) ∙ k))
 
--- and no write of the opal profile alone has such a code
-record IsFieldWrite (h : RegH2d) (count : ℕ) : Type 0 where
-  size : field_payload_length h ≡ 512 * count
-  other : writes_more h.command ≡ false
-
 field-write : (h : RegH2d) (c : Command) (count : ℕ) (r : Result (Command × Option ℕ) CommandError) (x : Option Command) → reading h ≡ r → beside h ≡ x
-    → ◌≡◌ {A = Result (Command × Option ℕ) CommandError} (read_or r x) (Ok (c, None)) → written c ≡ Some count → IsFieldWrite h count
+    → ◌≡◌ {A = Result (Command × Option ℕ) CommandError} (read_or r x) (Ok (c, None)) → written c ≡ Some count → field_payload_length h ≡ 512 * count
 field-write h c count (Ok y) x is m k w =
     let one = read-write h c count (fault_of h) (is ∙ k) w in
-    record {
-      size =
-          ap (λ (code : ℕ). cond (code == short_write_dma) (512 * short_sectors h) (payload_length h)) (eqb-true h.command write_dma_code one.code_is)
-          ∙ base-size h count one;
-      other = ap writes_more (eqb-true h.command write_dma_code one.code_is);
-    }
+    ap (λ (code : ℕ). cond (code == short_write_dma) (512 * short_sectors h) (payload_length h)) (eqb-true h.command write_dma_code one.code_is)
+    ∙ base-size h count one
 field-write h c count (Err error) None is m k w = absurd (not-ok k)
 field-write h c count (Err error) (Some d) is m k w =
     let one = short-write h d count m (ap written (ok-command k) ∙ w) in
-    record {
-      size = ap (λ b. cond b (512 * short_sectors h) (payload_length h)) one.code_is ∙ ap (λ n. 512 * n) one.count_is;
-      other = ap writes_more (eqb-true h.command short_write_dma one.code_is);
-    }
+    ap (λ b. cond b (512 * short_sectors h) (payload_length h)) one.code_is ∙ ap (λ n. 512 * n) one.count_is
 
--- what the opal profile reads beside
-record IsMoreWrite (h : RegH2d) (count : ℕ) : Type 0 where
-  code_is : writes_more h.command ≡ true
-  count_is : sectors_moved h ≡ count
+-- what the opal profile reads: as the field profile, or beside
+more-write : (c : Command) (count : ℕ) → written c ≡ Some count → size_with c ≡ 512 * count
+more-write (WriteDma lba n) count w = ap (λ x. 512 * x) (some-same w)
+more-write (WritePio lba n) count w = ap (λ x. 512 * x) (some-same w)
+more-write (ReadQueued lba n) count w = absurd (none-some w)
+more-write (WriteQueued lba n) count w = absurd (none-some w)
+more-write (ReadDma lba n) count w = absurd (none-some w)
+more-write (Send protocol com_id n dma) count w = absurd (none-some w)
+more-write (Receive protocol com_id n dma) count w = absurd (none-some w)
+more-write Identify count w = absurd (none-some w)
+more-write (ReadLog10 dma) count w = absurd (none-some w)
+more-write Flush count w = absurd (none-some w)
+more-write (SetFeatures feature) count w = absurd (none-some w)
+more-write (ReadLog page dma) count w = absurd (none-some w)
+more-write (ReadPio lba n) count w = absurd (none-some w)
+more-write (Verify lba n) count w = absurd (none-some w)
+more-write (Control control) count w = absurd (none-some w)
 
-moved : (h : RegH2d) (a b c d : Bool) (count : ℕ) → writes_pio h.command ≡ b → writes_through h.command ≡ d → (a || b || c || d) ≡ true
-    → written (cond a (ReadPio (first_moved h) (sectors_moved h)) (cond b (WritePio (first_moved h) (sectors_moved h)) (cond c (Verify (first_moved h) (sectors_moved h)) (WriteDma (first_moved h) (sectors_moved h))))) ≡ Some count
-    → IsMoreWrite h count
-moved h true b c d count pio through any g = absurd (none-some g)
-moved h false true c d count pio through any g = record { code_is = ap (λ x. x || writes_through h.command) pio; count_is = some-same g }
-moved h false false true d count pio through any g = absurd (none-some g)
-moved h false false false true count pio through any g = record { code_is = ap (λ x. x || writes_through h.command) pio ∙ through; count_is = some-same g }
-moved h false false false false count pio through any g = absurd (false-true any)
-
-no-control : (x : Option controls.Control) → written_of (option_map Control x) ≡ None
-no-control None = refl
-no-control (Some control) = refl
-
-more-write : (h : RegH2d) (c : Command) (count : ℕ) → more h ≡ Some c → written c ≡ Some count → IsMoreWrite h count
-more-write h c count g w = by_command (not h.is_command) (moves_more h.command) (has_lba_bit h.device) refl (ap written_of g ∙ w)
-  where
-    by_command : (a b d : Bool) → moves_more h.command ≡ b
-        → written_of (cond a None (cond b (cond d (Some (moving h)) None) (option_map Control (control_named h)))) ≡ Some count → IsMoreWrite h count
-    by_command true b d is k = absurd (none-some k)
-    by_command false true true is k = moved h (reads_pio h.command) (writes_pio h.command) (verifies h.command) (writes_through h.command) count refl refl is k
-    by_command false true false is k = absurd (none-some k)
-    by_command false false d is k = absurd (none-some (sym (no-control (control_named h)) ∙ k))
-
-opal-size : (h : RegH2d) (c : Command) (count : ℕ) (r : Result (Command × Option ℕ) CommandError) (x : Option Command) → read_or (reading h) (beside h) ≡ r → more h ≡ x
-    → ◌≡◌ {A = Result (Command × Option ℕ) CommandError} (read_or r x) (Ok (c, None)) → written c ≡ Some count → payload_length_in Opal h ≡ 512 * count
-opal-size h c count (Ok y) x is m k w =
-    let one = field-write h c count (reading h) (beside h) refl refl (is ∙ k) w in
-    ap (λ b. cond b (512 * sectors_moved h) (field_payload_length h)) one.other ∙ one.size
-opal-size h c count (Err error) None is m k w = absurd (not-ok k)
-opal-size h c count (Err error) (Some d) is m k w =
-    let one = more-write h d count m (ap written (ok-command k) ∙ w) in
-    ap (λ b. cond b (512 * sectors_moved h) (field_payload_length h)) one.code_is ∙ ap (λ n. 512 * n) one.count_is
+opal-size : (h : RegH2d) (c : Command) (count : ℕ) → OpalReads h c None → written c ≡ Some count → payload_length_in Opal h ≡ 512 * count
+opal-size h c count (as_field is size) w = size ∙ field-write h c count (reading h) (beside h) refl refl is w
+opal-size h c count (by_more is none) w = more-size h c is ∙ more-write c count w
 
 size-in : (p : Profile) (h : RegH2d) (c : Command) (count : ℕ) → reading_in p h ≡ Ok (c, None) → written c ≡ Some count → payload_length_in p h ≡ 512 * count
 size-in Base h c count g w = base-size h count (read-write h c count (fault_of h) g w)
-size-in Field h c count g w = (field-write h c count (reading h) (beside h) refl refl g w).size
-size-in Opal h c count g w = opal-size h c count (read_or (reading h) (beside h)) (more h) refl refl g w
+size-in Field h c count g w = field-write h c count (reading h) (beside h) refl refl g w
+size-in Opal h c count g w = opal-size h c count (opal-reads h c None g) w
 
-pub write-size : (p : Profile) (h : RegH2d) (c : Command) (lba count : ℕ) → Reaches c None Write lba count → reading_in p h ≡ Ok (c, None) → payload_length_in p h ≡ 512 * count
-write-size p h c lba count writes g = size-in p h c count g (written-is c None Write lba count writes refl refl)
+pub size-of-write : (p : Profile) (h : RegH2d) (c : Command) (lba count : ℕ) → Reaches c None Write lba count → reading_in p h ≡ Ok (c, None) → payload_length_in p h ≡ 512 * count
+size-of-write p h c lba count writes g = size-in p h c count g (written-is c None Write lba count writes refl refl)
+
+pub write-size : (p : Profile) (h : RegH2d) (lba count : ℕ) → reading_in p h ≡ Ok (WriteDma lba count, None) → payload_length_in p h ≡ 512 * count
+write-size p h lba count g = size-in p h (WriteDma lba count) count g refl
+
+pub pio-write-size : (p : Profile) (h : RegH2d) (lba count : ℕ) → reading_in p h ≡ Ok (WritePio lba count, None) → payload_length_in p h ≡ 512 * count
+pio-write-size p h lba count g = size-in p h (WritePio lba count) count g refl
