@@ -14,23 +14,19 @@ use Rattle.trusted_cmds.specs.declared.log_pages.LogPages.{LogPages}
 use Rattle.trusted_cmds.specs.Commands.{reading, fault_of, read_unless, command_without_sectors, read_queued, write_queued, read_dma, write_dma, is_send, is_receive, is_log_read, identify_device, read_log_dma, set_features, has_lba_bit, sectors, blocks, sector_size, payload_length, short_lba, short_sectors}
 use Rattle.trusted_cmds.specs.Profiles.{reading_in, read_or, beside, payload_length_in, field_payload_length, short_read_dma, short_write_dma, short_flush_cache, is_short_transfer, short_transfer, beside_without_sectors, feature_named, pages_named}
 use Rattle.trusted_cmds.proofs.Sizes.{OpalReads, as_field, by_more, opal-reads, more-size, size_with}
-use Rattle.history.proofs.SectorProofs.{write-size}
+use Rattle.history.specs.DenialLaws.{write_dma as reaches_write_dma, write_pio as reaches_write_pio}
+use Rattle.history.proofs.WriteSizes.{write-size}
 use Rattle.drive.specs.Transfer.{by_op, unqueued_command, payload_size_of, CanGo}
 use Rattle.drive.specs.declared.transfer.Transfer.{Transfer}
 use Rattle.drive.specs.declared.transfer.Way.{Way}
 use Rattle.drive.specs.declared.transfer.Way.TheVariants as ways
 
--- The transfers but WRITE DMA EXT and the queued ones, and which of them is by DMA.
-abbrev is_told : Command → Bool
-is_told (ReadDma lba count) = true
-is_told (ReadPio lba count) = true
-is_told (WritePio lba count) = true
-is_told (Verify lba count) = true
-is_told _ = false
-
-abbrev is_dma : Command → Bool
-is_dma (ReadDma lba count) = true
-is_dma _ = false
+-- The commands that read sectors.
+abbrev is_read : Command → Bool
+is_read (ReadDma lba count) = true
+is_read (ReadPio lba count) = true
+is_read (Verify lba count) = true
+is_read _ = false
 
 false_true : false ≡ true → ⊥
 false_true h = cc
@@ -44,143 +40,122 @@ ok-command h = ap (λ (p : Command × Option ℕ). p.0) (pair h)
 no-error : {e : CommandError} {x : Command × Option ℕ} → ◌≡◌ {A = Result (Command × Option ℕ) CommandError} (Err e) (Ok x) → ⊥
 no-error h = cc
 
-other : {c d : Command} → is_told c ≡ false → is_told d ≡ true → c ≡ d → ⊥
-other none told g = false_true (sym none ∙ ap is_told g ∙ told)
+other : {c d : Command} → is_read c ≡ false → is_read d ≡ true → c ≡ d → ⊥
+other none reads g = false_true (sym none ∙ ap is_read g ∙ reads)
 
 -- Of them each drive reads READ DMA EXT alone.
-record IsDmaRead (h : RegH2d) (code : ℕ) (its : Command) : Type 0 where
-  code_is : (h.command == code) ≡ true
-  by_dma : is_dma its ≡ true
-
-rest-untold : (h : RegH2d) → is_told (command_without_sectors h) ≡ false
-rest-untold h = pick _ _ (is_send h.command) refl (pick _ _ (is_receive h.command) refl (pick _ _ (is_log_read h.command) refl (pick _ _ (h.command == identify_device) refl refl)))
+rest-no-read : (h : RegH2d) → is_read (command_without_sectors h) ≡ false
+rest-no-read h = pick _ _ (is_send h.command) refl (pick _ _ (is_receive h.command) refl (pick _ _ (is_log_read h.command) refl (pick _ _ (h.command == identify_device) refl refl)))
   where
-    pick : (a b : Command) (c : Bool) → is_told a ≡ false → is_told b ≡ false → is_told (cond c a b) ≡ false
+    pick : (a b : Command) (c : Bool) → is_read a ≡ false → is_read b ≡ false → is_read (cond c a b) ≡ false
     pick a b true x y = x
     pick a b false x y = y
 
-read-code : (h : RegH2d) (a b c d : Bool) (rest its : Command) (l n : ℕ) → (h.command == read_dma) ≡ c → is_told rest ≡ false → is_told its ≡ true
+read-code : (h : RegH2d) (a b c d : Bool) (rest its : Command) (l n : ℕ) → (h.command == read_dma) ≡ c → is_read rest ≡ false → is_read its ≡ true
     → cond a (ReadQueued l n) (cond b (WriteQueued l n) (cond c (ReadDma l (sectors h.count)) (cond d (WriteDma l (sectors h.count)) rest))) ≡ its
-    → IsDmaRead h read_dma its
-read-code h true b c d rest its l n is none told g = absurd (other refl told g)
-read-code h false true c d rest its l n is none told g = absurd (other refl told g)
-read-code h false false true d rest its l n is none told g = record { code_is = is; by_dma = ap is_dma (sym g) }
-read-code h false false false true rest its l n is none told g = absurd (other refl told g)
-read-code h false false false false rest its l n is none told g = absurd (other none told g)
+    → (h.command == read_dma) ≡ true
+read-code h true b c d rest its l n is none reads g = absurd (other refl reads g)
+read-code h false true c d rest its l n is none reads g = absurd (other refl reads g)
+read-code h false false true d rest its l n is none reads g = is
+read-code h false false false true rest its l n is none reads g = absurd (other refl reads g)
+read-code h false false false false rest its l n is none reads g = absurd (other none reads g)
 
-base-code : (h : RegH2d) (its : Command) (x : Option CommandError) → is_told its ≡ true → read_unless x h ≡ Ok (its, None) → IsDmaRead h read_dma its
-base-code h its (Some e) told g = absurd (no-error g)
-base-code h its None told g =
+base-code : (h : RegH2d) (its : Command) (x : Option CommandError) → is_read its ≡ true → read_unless x h ≡ Ok (its, None) → (h.command == read_dma) ≡ true
+base-code h its (Some e) reads g = absurd (no-error g)
+base-code h its None reads g =
     read-code h (h.command == read_queued) (h.command == write_queued) (h.command == read_dma) (h.command == write_dma)
-    (command_without_sectors h) its h.lba (sectors h.feature) refl (rest-untold h) told (ok-command g)
+    (command_without_sectors h) its h.lba (sectors h.feature) refl (rest-no-read h) reads (ok-command g)
 
--- Beside it is one of 28 bits.
+-- a read beside is one of 28 bits
 some-is : {c d : Command} → Some c ≡ Some d → c ≡ d
 some-is h = cc
 
 no-some : {its : Command} → None ≡ Some its → ⊥
 no-some h = cc
 
-no-page : (page : Option LogPages) (dma : Bool) (its : Command) → is_told its ≡ true
+no-page : (page : Option LogPages) (dma : Bool) (its : Command) → is_read its ≡ true
     → option_map (λ (p : LogPages). ReadLog p dma) page ≡ Some its → ⊥
-no-page None dma its told g = no-some g
-no-page (Some p) dma its told g = other refl told (some-is g)
+no-page None dma its reads g = no-some g
+no-page (Some p) dma its reads g = other refl reads (some-is g)
 
-no-feature : (feature : Option Feature) (its : Command) → is_told its ≡ true → option_map SetFeatures feature ≡ Some its → ⊥
-no-feature None its told g = no-some g
-no-feature (Some f) its told g = other refl told (some-is g)
+no-feature : (feature : Option Feature) (its : Command) → is_read its ≡ true → option_map SetFeatures feature ≡ Some its → ⊥
+no-feature None its reads g = no-some g
+no-feature (Some f) its reads g = other refl reads (some-is g)
 
-no-plain : (h : RegH2d) (a b c : Bool) (its : Command) → is_told its ≡ true
+no-plain : (h : RegH2d) (a b c : Bool) (its : Command) → is_read its ≡ true
     → cond a (Some Flush) (cond b (option_map SetFeatures (feature_named h))
     (cond c (option_map (λ (p : LogPages). ReadLog p (h.command == read_log_dma)) (pages_named h)) None))
     ≡ Some its → ⊥
-no-plain h true b c its told g = other refl told (some-is g)
-no-plain h false true c its told g = no-feature (feature_named h) its told g
-no-plain h false false true its told g = no-page (pages_named h) (h.command == read_log_dma) its told g
-no-plain h false false false its told g = no-some g
+no-plain h true b c its reads g = other refl reads (some-is g)
+no-plain h false true c its reads g = no-feature (feature_named h) its reads g
+no-plain h false false true its reads g = no-page (pages_named h) (h.command == read_log_dma) its reads g
+no-plain h false false false its reads g = no-some g
 
-transferred : (h : RegH2d) (a : Bool) (its : Command) → (h.command == short_read_dma) ≡ a → is_told its ≡ true
+transferred : (h : RegH2d) (a : Bool) (its : Command) → (h.command == short_read_dma) ≡ a → is_read its ≡ true
     → cond a (ReadDma (short_lba h) (short_sectors h)) (WriteDma (short_lba h) (short_sectors h)) ≡ its
-    → IsDmaRead h short_read_dma its
-transferred h true its is told g = record { code_is = is; by_dma = ap is_dma (sym g) }
-transferred h false its is told g = absurd (other refl told g)
+    → (h.command == short_read_dma) ≡ true
+transferred h true its is reads g = is
+transferred h false its is reads g = absurd (other refl reads g)
 
-short-read : (h : RegH2d) (its : Command) → is_told its ≡ true → beside h ≡ Some its → IsDmaRead h short_read_dma its
-short-read h its told g = by_command (not h.is_command) (is_short_transfer h.command) (has_lba_bit h.device) g
+short-read : (h : RegH2d) (its : Command) → is_read its ≡ true → beside h ≡ Some its → (h.command == short_read_dma) ≡ true
+short-read h its reads g = by_command (not h.is_command) (is_short_transfer h.command) (has_lba_bit h.device) g
   where
     by_command : (a b c : Bool)
         → cond a None (cond b (cond c (Some (short_transfer h)) None) (beside_without_sectors h)) ≡ Some its
-        → IsDmaRead h short_read_dma its
+        → (h.command == short_read_dma) ≡ true
     by_command true b c k = absurd (no-some k)
-    by_command false true true k = transferred h (h.command == short_read_dma) its refl told (some-is k)
+    by_command false true true k = transferred h (h.command == short_read_dma) its refl reads (some-is k)
     by_command false true false k = absurd (no-some k)
     by_command false false c k =
-        absurd (no-plain h (h.command == short_flush_cache) (h.command == set_features) (is_log_read h.command) its told k)
+        absurd (no-plain h (h.command == short_flush_cache) (h.command == set_features) (is_log_read h.command) its reads k)
 
--- No bytes come with a read.
+-- no bytes come with a read
 abbrev lengths : RegH2d → ℕ → ℕ
 lengths h code =
     cond (code == short_write_dma) (sector_size * short_sectors h)
     (cond (code == write_dma) (sector_size * sectors h.count) (cond (is_send code) (sector_size * blocks h) 0))
 
-record IsReadAlone (size : ℕ) (its : Command) : Type 0 where
-  none : size ≡ 0
-  by_dma : is_dma its ≡ true
+base-none : (h : RegH2d) → (h.command == read_dma) ≡ true → payload_length h ≡ 0
+base-none h is =
+    ap (λ (n : ℕ). cond (n == write_dma) (sector_size * sectors h.count) (cond (is_send n) (sector_size * blocks h) 0))
+    (eqb-true h.command read_dma is)
 
-base-size : (h : RegH2d) (its : Command) → is_told its ≡ true → reading h ≡ Ok (its, None) → IsReadAlone (payload_length h) its
-base-size h its told g =
-    let r : IsDmaRead h read_dma its = base-code h its (fault_of h) told g in
-    record {
-      none = ap (λ (n : ℕ). cond (n == write_dma) (sector_size * sectors h.count) (cond (is_send n) (sector_size * blocks h) 0))
-          (eqb-true h.command read_dma r.code_is);
-      by_dma = r.by_dma;
-    }
+field-none : (h : RegH2d) (code : ℕ) → (h.command == code) ≡ true → lengths h code ≡ 0 → field_payload_length h ≡ 0
+field-none h code is none = ap (lengths h) (eqb-true h.command code is) ∙ none
 
-field-by : (h : RegH2d) (code : ℕ) (its : Command) → lengths h code ≡ 0 → IsDmaRead h code its → IsReadAlone (field_payload_length h) its
-field-by h code its none r = record { none = ap (lengths h) (eqb-true h.command code r.code_is) ∙ none; by_dma = r.by_dma }
-
-field-size : (h : RegH2d) (its : Command) (r : Result (Command × Option ℕ) CommandError) (x : Option Command) → is_told its ≡ true
+field-size : (h : RegH2d) (its : Command) (r : Result (Command × Option ℕ) CommandError) (x : Option Command) → is_read its ≡ true
     → reading h ≡ r → beside h ≡ x
     → ◌≡◌ {A = Result (Command × Option ℕ) CommandError} (read_or r x) (Ok (its, None))
-    → IsReadAlone (field_payload_length h) its
-field-size h its (Ok z) x told is m k = field-by h read_dma its refl (base-code h its (fault_of h) told (is ∙ k))
-field-size h its (Err error) None told is m k = absurd (no-error k)
-field-size h its (Err error) (Some c) told is m k =
-    field-by h short_read_dma its refl (short-read h its told (m ∙ ap (λ (y : Command). Some y) (ok-command k)))
+    → field_payload_length h ≡ 0
+field-size h its (Ok z) x reads is m k = field-none h read_dma (base-code h its (fault_of h) reads (is ∙ k)) refl
+field-size h its (Err error) None reads is m k = absurd (no-error k)
+field-size h its (Err error) (Some c) reads is m k =
+    field-none h short_read_dma (short-read h its reads (m ∙ ap (λ (y : Command). Some y) (ok-command k))) refl
 
 -- Under the opal profile as much as under the field profile, or as the command says.
-read-size : (p : Profile) (h : RegH2d) (its : Command) → is_told its ≡ true → size_with its ≡ 0
+read-size : (p : Profile) (h : RegH2d) (its : Command) → is_read its ≡ true → size_with its ≡ 0
     → reading_in p h ≡ Ok (its, None) → payload_length_in p h ≡ 0
-read-size Base h its told none g = (base-size h its told g).none
-read-size Field h its told none g = (field-size h its (reading h) (beside h) told refl refl g).none
-read-size Opal h its told none g = by (opal-reads h its None g)
+read-size Base h its reads none g = base-none h (base-code h its (fault_of h) reads g)
+read-size Field h its reads none g = field-size h its (reading h) (beside h) reads refl refl g
+read-size Opal h its reads none g = by (opal-reads h its None g)
   where
     by : OpalReads h its None → payload_length_in Opal h ≡ 0
-    by (as_field e same) = same ∙ (field-size h its (reading h) (beside h) told refl refl e).none
+    by (as_field e same) = same ∙ field-size h its (reading h) (beside h) reads refl refl e
     by (by_more e untagged) = more-size h its e ∙ none
 
-pio-write-size : (p : Profile) (h : RegH2d) (lba count : ℕ) → reading_in p h ≡ Ok (WritePio lba count, None)
-    → payload_length_in p h ≡ sector_size * count
-pio-write-size Base h lba count g = absurd (false_true (base-size h (WritePio lba count) refl g).by_dma)
-pio-write-size Field h lba count g =
-    absurd (false_true (field-size h (WritePio lba count) (reading h) (beside h) refl refl refl g).by_dma)
-pio-write-size Opal h lba count g = by (opal-reads h (WritePio lba count) None g)
-  where
-    by : OpalReads h (WritePio lba count) None → payload_length_in Opal h ≡ sector_size * count
-    by (as_field e same) =
-        absurd (false_true (field-size h (WritePio lba count) (reading h) (beside h) refl refl refl e).by_dma)
-    by (by_more e untagged) = more-size h (WritePio lba count) e
-
 -- What an unqueued transfer wants is what its command brings.
+no-write : Write ≡ Read → ⊥
+no-write h = cc
+
 sized : (p : Profile) (h : RegH2d) (way : Way) (op : Op) (lba count : ℕ) → CanGo way op
     → reading_in p h ≡ Ok (unqueued_command way (record { op = op; lba = lba; count = count }), None)
     → payload_length_in p h ≡ by_op op 0 (sector_size * count)
 sized p h ways.Dma Read lba count goes g = read-size p h (ReadDma lba count) refl refl g
-sized p h ways.Dma Write lba count goes g = write-size p h lba count g
+sized p h ways.Dma Write lba count goes g = write-size p h (WriteDma lba count) lba count reaches_write_dma g
 sized p h ways.Pio Read lba count goes g = read-size p h (ReadPio lba count) refl refl g
-sized p h ways.Pio Write lba count goes g = pio-write-size p h lba count g
+sized p h ways.Pio Write lba count goes g = write-size p h (WritePio lba count) lba count reaches_write_pio g
 sized p h ways.Verify Read lba count goes g = read-size p h (Verify lba count) refl refl g
-sized p h ways.Verify Write lba count goes g = absurd cc
+sized p h ways.Verify Write lba count goes g = absurd (no-write goes)
 
 pub moved-size : (p : Profile) (h : RegH2d) (way : Way) (t : Transfer) → CanGo way t.op → reading_in p h ≡ Ok (unqueued_command way t, None)
     → payload_length_in p h ≡ payload_size_of t
