@@ -1,21 +1,21 @@
 -- How many bytes come with a transfer that is not queued, under each profile.
 use Rattle.std.proofs.Common.{◌≡◌, ◌∙◌, ℕ, ◌*◌, ◌==◌, Bool, true, false, not, Option, Some, None, Result, Ok, Err, refl, sym, ap, cond, eqb-true}
-use Rattle.std.specs.Prelude.{option_map, ◌||◌}
+use Rattle.std.specs.Prelude.{option_map}
 use Rattle.basics.specs.declared.profile.Profile.{Profile}
 use Rattle.basics.specs.declared.profile.Profile.TheVariants.{Base, Field, Opal}
 use Rattle.fis.specs.declared.h2d.RegH2d.{RegH2d}
 use Rattle.locking.specs.declared.range.Op.{Op}
 use Rattle.locking.specs.declared.range.Op.TheVariants.{Read, Write}
 use Rattle.trusted_cmds.specs.declared.command.Command.{Command}
-use Rattle.trusted_cmds.specs.declared.command.Command.TheVariants.{ReadQueued, WriteQueued, ReadDma, WriteDma, Flush, SetFeatures, ReadLog, ReadPio, WritePio, Verify, Control}
+use Rattle.trusted_cmds.specs.declared.command.Command.TheVariants.{ReadQueued, WriteQueued, ReadDma, WriteDma, Flush, SetFeatures, ReadLog, ReadPio, WritePio, Verify}
 use Rattle.trusted_cmds.specs.declared.command.CommandError.{CommandError}
-use Rattle.trusted_cmds.specs.declared.control.Control as controls
 use Rattle.trusted_cmds.specs.declared.feature.Feature.{Feature}
 use Rattle.trusted_cmds.specs.declared.log_pages.LogPages.{LogPages}
-use Rattle.trusted_cmds.specs.Commands.{reading, fault_of, read_unless, command_without_sectors, read_queued, write_queued, read_dma, write_dma, is_send, is_receive, is_log_read, identify_device, read_log_dma, set_features, has_lba_bit, sectors, blocks, sector_size, payload_length, short_lba, short_sectors, read_sectors_ext, verify_sectors_ext}
-use Rattle.trusted_cmds.specs.General.{reads_pio, writes_pio, verifies, moves_more, writes_more, first_moved, sectors_moved, control_named, moving, more, read_sectors, read_multiple, read_multiple_ext, verify_sectors}
+use Rattle.trusted_cmds.specs.Commands.{reading, fault_of, read_unless, command_without_sectors, read_queued, write_queued, read_dma, write_dma, is_send, is_receive, is_log_read, identify_device, read_log_dma, set_features, has_lba_bit, sectors, blocks, sector_size, payload_length, short_lba, short_sectors}
 use Rattle.trusted_cmds.specs.Profiles.{reading_in, read_or, beside, payload_length_in, field_payload_length, short_read_dma, short_write_dma, short_flush_cache, is_short_transfer, short_transfer, beside_without_sectors, feature_named, pages_named}
-use Rattle.history.proofs.WriteSizes.{write-size, pio-write-size}
+use Rattle.trusted_cmds.proofs.Sizes.{OpalReads, as_field, by_more, opal-reads, more-size, size_with}
+use Rattle.history.specs.DenialLaws.{write_dma as reaches_write_dma, write_pio as reaches_write_pio}
+use Rattle.history.proofs.WriteSizes.{write-size}
 use Rattle.drive.specs.Transfer.{by_op, unqueued_command, payload_size_of, CanGo}
 use Rattle.drive.specs.declared.transfer.Transfer.{Transfer}
 use Rattle.drive.specs.declared.transfer.Way.{Way}
@@ -41,9 +41,9 @@ no-error : {e : CommandError} {x : Command × Option ℕ} → ◌≡◌ {A = Res
 no-error h = cc
 
 other : {c d : Command} → is_read c ≡ false → is_read d ≡ true → c ≡ d → ⊥
-other none is g = false_true (sym none ∙ ap is_read g ∙ is)
+other none reads g = false_true (sym none ∙ ap is_read g ∙ reads)
 
--- What each drive reads: READ DMA EXT alone reads without a queue.
+-- Of them each drive reads READ DMA EXT alone.
 rest-no-read : (h : RegH2d) → is_read (command_without_sectors h) ≡ false
 rest-no-read h = pick _ _ (is_send h.command) refl (pick _ _ (is_receive h.command) refl (pick _ _ (is_log_read h.command) refl (pick _ _ (h.command == identify_device) refl refl)))
   where
@@ -66,7 +66,7 @@ base-code h its None reads g =
     read-code h (h.command == read_queued) (h.command == write_queued) (h.command == read_dma) (h.command == write_dma)
     (command_without_sectors h) its h.lba (sectors h.feature) refl (rest-no-read h) reads (ok-command g)
 
--- A read beside is one of 28 bits.
+-- a read beside is one of 28 bits
 some-is : {c d : Command} → Some c ≡ Some d → c ≡ d
 some-is h = cc
 
@@ -109,14 +109,11 @@ short-read h its reads g = by_command (not h.is_command) (is_short_transfer h.co
     by_command false false c k =
         absurd (no-plain h (h.command == short_flush_cache) (h.command == set_features) (is_log_read h.command) its reads k)
 
--- No bytes come with a read, by its code.
+-- no bytes come with a read
 abbrev lengths : RegH2d → ℕ → ℕ
 lengths h code =
     cond (code == short_write_dma) (sector_size * short_sectors h)
     (cond (code == write_dma) (sector_size * sectors h.count) (cond (is_send code) (sector_size * blocks h) 0))
-
-abbrev opal-lengths : RegH2d → ℕ → ℕ
-opal-lengths h code = cond (writes_more code) (sector_size * sectors_moved h) (lengths h code)
 
 base-none : (h : RegH2d) → (h.command == read_dma) ≡ true → payload_length h ≡ 0
 base-none h is =
@@ -126,51 +123,6 @@ base-none h is =
 field-none : (h : RegH2d) (code : ℕ) → (h.command == code) ≡ true → lengths h code ≡ 0 → field_payload_length h ≡ 0
 field-none h code is none = ap (lengths h) (eqb-true h.command code is) ∙ none
 
-opal-none : (h : RegH2d) (code : ℕ) → (h.command == code) ≡ true → opal-lengths h code ≡ 0 → payload_length_in Opal h ≡ 0
-opal-none h code is none = ap (opal-lengths h) (eqb-true h.command code is) ∙ none
-
--- A read that the opal profile has beside is one by PIO, or a verification.
-pio-none : (h : RegH2d) (a b c d : Bool) → (h.command == read_sectors) ≡ a → (h.command == read_sectors_ext) ≡ b
-    → (h.command == read_multiple) ≡ c → (h.command == read_multiple_ext) ≡ d → (a || b || c || d) ≡ true → payload_length_in Opal h ≡ 0
-pio-none h true b c d first second third fourth any = opal-none h read_sectors first refl
-pio-none h false true c d first second third fourth any = opal-none h read_sectors_ext second refl
-pio-none h false false true d first second third fourth any = opal-none h read_multiple third refl
-pio-none h false false false true first second third fourth any = opal-none h read_multiple_ext fourth refl
-pio-none h false false false false first second third fourth any = absurd (false_true any)
-
-verify-none : (h : RegH2d) (a b : Bool) → (h.command == verify_sectors) ≡ a → (h.command == verify_sectors_ext) ≡ b → (a || b) ≡ true
-    → payload_length_in Opal h ≡ 0
-verify-none h true b first second any = opal-none h verify_sectors first refl
-verify-none h false true first second any = opal-none h verify_sectors_ext second refl
-verify-none h false false first second any = absurd (false_true any)
-
-moving-none : (h : RegH2d) (r w v : Bool) (its : Command) → reads_pio h.command ≡ r → verifies h.command ≡ v → is_read its ≡ true
-    → cond r (ReadPio (first_moved h) (sectors_moved h)) (cond w (WritePio (first_moved h) (sectors_moved h))
-    (cond v (Verify (first_moved h) (sectors_moved h)) (WriteDma (first_moved h) (sectors_moved h)))) ≡ its
-    → payload_length_in Opal h ≡ 0
-moving-none h true w v its reads verified is g =
-    pio-none h (h.command == read_sectors) (h.command == read_sectors_ext) (h.command == read_multiple) (h.command == read_multiple_ext) refl refl refl refl reads
-moving-none h false true v its reads verified is g = absurd (other refl is g)
-moving-none h false false true its reads verified is g = verify-none h (h.command == verify_sectors) (h.command == verify_sectors_ext) refl refl verified
-moving-none h false false false its reads verified is g = absurd (other refl is g)
-
-no-control : (control : Option controls.Control) (its : Command) → is_read its ≡ true → option_map Control control ≡ Some its → ⊥
-no-control None its reads g = no-some g
-no-control (Some c) its reads g = other refl reads (some-is g)
-
-more-none : (h : RegH2d) (its : Command) → is_read its ≡ true → more h ≡ Some its → payload_length_in Opal h ≡ 0
-more-none h its reads g = by_command (not h.is_command) (moves_more h.command) (has_lba_bit h.device) g
-  where
-    by_command : (a b c : Bool)
-        → cond a None (cond b (cond c (Some (moving h)) None) (option_map Control (control_named h))) ≡ Some its
-        → payload_length_in Opal h ≡ 0
-    by_command true b c k = absurd (no-some k)
-    by_command false true true k =
-        moving-none h (reads_pio h.command) (writes_pio h.command) (verifies h.command) its refl refl reads (some-is k)
-    by_command false true false k = absurd (no-some k)
-    by_command false false c k = absurd (no-control (control_named h) its reads k)
-
--- Under each profile.
 field-size : (h : RegH2d) (its : Command) (r : Result (Command × Option ℕ) CommandError) (x : Option Command) → is_read its ≡ true
     → reading h ≡ r → beside h ≡ x
     → ◌≡◌ {A = Result (Command × Option ℕ) CommandError} (read_or r x) (Ok (its, None))
@@ -178,33 +130,32 @@ field-size : (h : RegH2d) (its : Command) (r : Result (Command × Option ℕ) Co
 field-size h its (Ok z) x reads is m k = field-none h read_dma (base-code h its (fault_of h) reads (is ∙ k)) refl
 field-size h its (Err error) None reads is m k = absurd (no-error k)
 field-size h its (Err error) (Some c) reads is m k =
-    field-none h short_read_dma (short-read h its reads (m ∙ ap (λ x. Some x) (ok-command k))) refl
+    field-none h short_read_dma (short-read h its reads (m ∙ ap (λ (y : Command). Some y) (ok-command k))) refl
 
-opal-size : (h : RegH2d) (its : Command) (r : Result (Command × Option ℕ) CommandError) (x y : Option Command) → is_read its ≡ true
-    → reading h ≡ r → beside h ≡ x → more h ≡ y
-    → ◌≡◌ {A = Result (Command × Option ℕ) CommandError} (read_or (read_or r x) y) (Ok (its, None))
-    → payload_length_in Opal h ≡ 0
-opal-size h its (Ok z) x y reads is m n k = opal-none h read_dma (base-code h its (fault_of h) reads (is ∙ k)) refl
-opal-size h its (Err error) (Some c) y reads is m n k =
-    opal-none h short_read_dma (short-read h its reads (m ∙ ap (λ x. Some x) (ok-command k))) refl
-opal-size h its (Err error) None (Some c) reads is m n k = more-none h its reads (n ∙ ap (λ x. Some x) (ok-command k))
-opal-size h its (Err error) None None reads is m n k = absurd (no-error k)
-
-read-size : (p : Profile) (h : RegH2d) (its : Command) → is_read its ≡ true → reading_in p h ≡ Ok (its, None) → payload_length_in p h ≡ 0
-read-size Base h its reads g = base-none h (base-code h its (fault_of h) reads g)
-read-size Field h its reads g = field-size h its (reading h) (beside h) reads refl refl g
-read-size Opal h its reads g = opal-size h its (reading h) (beside h) (more h) reads refl refl refl g
+-- Under the opal profile as much as under the field profile, or as the command says.
+read-size : (p : Profile) (h : RegH2d) (its : Command) → is_read its ≡ true → size_with its ≡ 0
+    → reading_in p h ≡ Ok (its, None) → payload_length_in p h ≡ 0
+read-size Base h its reads none g = base-none h (base-code h its (fault_of h) reads g)
+read-size Field h its reads none g = field-size h its (reading h) (beside h) reads refl refl g
+read-size Opal h its reads none g = by (opal-reads h its None g)
+  where
+    by : OpalReads h its None → payload_length_in Opal h ≡ 0
+    by (as_field e same) = same ∙ field-size h its (reading h) (beside h) reads refl refl e
+    by (by_more e untagged) = more-size h its e ∙ none
 
 -- What an unqueued transfer wants is what its command brings.
+no-write : Write ≡ Read → ⊥
+no-write h = cc
+
 sized : (p : Profile) (h : RegH2d) (way : Way) (op : Op) (lba count : ℕ) → CanGo way op
     → reading_in p h ≡ Ok (unqueued_command way (record { op = op; lba = lba; count = count }), None)
     → payload_length_in p h ≡ by_op op 0 (sector_size * count)
-sized p h ways.Dma Read lba count goes g = read-size p h (ReadDma lba count) refl g
-sized p h ways.Dma Write lba count goes g = write-size p h lba count g
-sized p h ways.Pio Read lba count goes g = read-size p h (ReadPio lba count) refl g
-sized p h ways.Pio Write lba count goes g = pio-write-size p h lba count g
-sized p h ways.Verify Read lba count goes g = read-size p h (Verify lba count) refl g
-sized p h ways.Verify Write lba count goes g = absurd cc
+sized p h ways.Dma Read lba count goes g = read-size p h (ReadDma lba count) refl refl g
+sized p h ways.Dma Write lba count goes g = write-size p h (WriteDma lba count) lba count reaches_write_dma g
+sized p h ways.Pio Read lba count goes g = read-size p h (ReadPio lba count) refl refl g
+sized p h ways.Pio Write lba count goes g = write-size p h (WritePio lba count) lba count reaches_write_pio g
+sized p h ways.Verify Read lba count goes g = read-size p h (Verify lba count) refl refl g
+sized p h ways.Verify Write lba count goes g = absurd (no-write goes)
 
 pub moved-size : (p : Profile) (h : RegH2d) (way : Way) (t : Transfer) → CanGo way t.op → reading_in p h ≡ Ok (unqueued_command way t, None)
     → payload_length_in p h ≡ payload_size_of t

@@ -22,7 +22,7 @@ use trusted_cmds::{Command, Control};
 pub struct Accepted {
     /// The Status register: 50h, or 51h with an error.
     pub status: u8,
-    /// The Error register: 04h aborted or denied, 10h beyond the drive.
+    /// The error: 04h aborted or denied, 10h beyond the drive, else 0. The FIS of [`Form::Diagnosed`] has a code of its own.
     pub error: u8,
     /// Whether the command is held until it is completed.
     pub held: bool,

@@ -8,6 +8,7 @@ use Rattle.fis.specs.Types.{h2d_type}
 use Rattle.fis.specs.declared.h2d.RegH2d.{RegH2d}
 use Rattle.sp_cells.specs.Config.{Config}
 use Rattle.trusted_cmds.specs.Commands.{fis_of, payload_length}
+use Rattle.trusted_cmds.specs.General.{is_general}
 use Rattle.trusted_cmds.specs.Profiles.{payload_length_in}
 use Rattle.trusted_cmds.specs.declared.command.Command.{Command}
 use Rattle.history.specs.Answers.{payload_of, expected}
@@ -23,7 +24,7 @@ use Rattle.drive.specs.Answers.{IsAnswer}
 use Rattle.drive.specs.Queue.{held_at}
 use Rattle.drive.specs.State.{DriveState, KeepsDrive, Agrees}
 use Rattle.drive.specs.declared.answer.Accepted.{Accepted}
-use Rattle.port_history.proofs.Fises.{fis_back, fis_brings}
+use Rattle.port_history.proofs.Fises.{fis_back, any_profile}
 use Rattle.drive_scripts.specs.Acts.{accept_of, step_of}
 
 flag-of : (n : ℕ) (b : Bool) → n / 128 ≡ bit b → nat_le 128 n ≡ b
@@ -46,24 +47,24 @@ read-back bytes h is =
       is.control,
     ) refl
 
--- the bytes that come with the spelling of a command are as many under each profile
+-- the bytes that come with the spelling of a command that each profile has are as many under each profile
 spelling-brings : (config : Config) (command : Command) (tag : ℕ) (bytes : List ℕ)
-    → IsH2d bytes (fis_of command tag)
+    → is_general command ≡ false → IsH2d bytes (fis_of command tag)
     → payload_of config bytes ≡ payload_length (fis_of command tag)
-spelling-brings config command tag bytes is =
+spelling-brings config command tag bytes known is =
     ap
     (λ kind. if kind == h2d_type then payload_length_in config.profile (h2d_at bytes) else 0)
     is.kind
     ∙ ap (payload_length_in config.profile) (read-back bytes (fis_of command tag) is)
-    ∙ sym (ap (payload_length_in config.profile) (fis_back command tag))
-    ∙ fis_brings config command tag
+    ∙ any_profile config.profile command tag known
 
 pub brings : (config : Config) (command : Command) (tag : ℕ) (h : RegH2d) (bytes payload : List ℕ)
-    → length payload ≡ payload_length (fis_of command tag) → h ≡ fis_of command tag
-    → IsH2dSpelling bytes h → length payload ≡ payload_of config bytes
-brings config command tag h bytes payload size same spelt =
+    → is_general command ≡ false → length payload ≡ payload_length (fis_of command tag)
+    → h ≡ fis_of command tag → IsH2dSpelling bytes h → length payload ≡ payload_of config bytes
+brings config command tag h bytes payload known size same spelt =
     size
-    ∙ sym (spelling-brings config command tag bytes (subst (IsH2dSpelling bytes) same spelt).writing)
+    ∙ sym
+    (spelling-brings config command tag bytes known (subst (IsH2dSpelling bytes) same spelt).writing)
 
 by-command : (f : Facts) (command : Command) (tag : ℕ) (bytes payload : List ℕ)
     → IsH2d bytes (fis_of command tag)

@@ -41,6 +41,7 @@ impl RunningPhase {
     ghost use Rattle.std.specs.Prelude.{◌≡◌, ◌<◌, ◌≤◌, ◌^◌, ℕ, List, [], length, true, false, IfSome, IfOk, OnOk, Ok, Err};
     ghost use Rattle.script_lines.specs.Fields.{most_call_bytes, most_send_bytes};
     ghost use Rattle.trusted_cmds.specs.Commands.{lba_of, IsCounted, payload_length, fis_of};
+    ghost use Rattle.trusted_cmds.specs.General.{is_general};
     ghost use Rattle.script_lines.specs.Lines.{line_said, HasBytesWithinLimits};
     ghost use Rattle.script_lines.specs.declared.line.Line.{Line};
     ghost use Rattle.script_lines.specs.declared.fault.LineFault.{LineFault};
@@ -154,6 +155,7 @@ impl RunningPhase {
     fn accept(&mut self, command: &Command, tag: Tag) -> Result<(), AllocError>
         requires address { IfSome (lba_of command.now) (λ lba. lba < 2 ^ 48) }
         requires counted { IsCounted command.now }
+        requires known { is_general command.now ≡ false }
         requires payload { length self.old.payload.items ≡ payload_length (fis_of command.now tag) }
         ensures accepts { OnOk result ((o : Origin) (acts : List Act) → RunsOn self.old o acts
             → Accepts self.new o acts command.now tag self.old.payload.items self.new.answer) }
@@ -216,6 +218,7 @@ impl RunningPhase {
     ) -> Result<bool, AllocError>
         requires address { IfSome (lba_of command.now) (λ lba. lba < 2 ^ 48) }
         requires counted { IsCounted command.now }
+        requires known { is_general command.now ≡ false }
         requires payload { payload_length (fis_of command.now transfer.now.tag) ≡ 0 }
         ensures { IfOk result (λ aborted. Makes
             (λ o acts. transferred o acts command.now transfer.now byte)
@@ -243,6 +246,7 @@ impl RunningPhase {
     ) -> Result<bool, AllocError>
         requires address { IfSome (lba_of command.now) (λ lba. lba < 2 ^ 48) }
         requires counted { IsCounted command.now }
+        requires known { is_general command.now ≡ false }
         requires payload { length self.old.payload.items ≡ payload_length (fis_of command.now 0) }
         ensures { IfOk result
             (λ aborted. Makes

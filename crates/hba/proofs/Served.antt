@@ -4,16 +4,18 @@ use Rattle.std.specs.Prelude.{◌==◌, ◌&&◌, is_some, unwrap_or, Result, Ok
 use Rattle.fis.specs.H2d.{h2d_at}
 use Rattle.fis.specs.Tags.{slot_count}
 use Rattle.fis.specs.declared.any.Fis.{Fis}
+use Rattle.fis.specs.declared.h2d.RegH2d.{RegH2d}
 use Rattle.shadow_mbr.specs.Stored.{sector_size}
+use Rattle.locking.specs.declared.range.Op.{Op}
 use Rattle.locking.specs.declared.range.Op.TheVariants.{Read, Write}
 use Rattle.locking.specs.declared.ranges.Verdict.{Verdict}
 use Rattle.locking.specs.declared.ranges.Verdict.TheVariants.{Serve, Shadow, Denied}
 use Rattle.trusted_cmds.specs.declared.command.Command.{Command}
-use Rattle.trusted_cmds.specs.declared.command.Command.TheVariants.{ReadQueued, WriteQueued, ReadDma, WriteDma}
+use Rattle.trusted_cmds.specs.declared.command.Command.TheVariants.{ReadQueued, WriteQueued, ReadDma, WriteDma, ReadPio, WritePio, Verify}
 use Rattle.trusted_cmds.specs.declared.command.CommandError.{CommandError}
-use Rattle.history.specs.Answers.{errored, ready, answer_fis, is_holding, served_fises, fises_read, fises_of, completed_fises, completed_data, setup_fis, moved_fis, read_by, block_of, data_read_of}
+use Rattle.history.specs.Answers.{errored, ready, answer_fis, pio_fis, is_holding, served_fises, fises_read, fises_of, completed_fises, completed_data, setup_fis, moved_fis, read_by, block_of, data_read_of}
 use Rattle.history.specs.Decisions.{on_drive, ranges_in_force, verdict_on, not_found, unqueued_by, fails, completed}
-use Rattle.history.specs.DenialLaws.{read_dma, write_dma}
+use Rattle.history.specs.DenialLaws.{Reaches, read_queued, write_queued, read_dma, write_dma, read_pio, write_pio, verify}
 use Rattle.history.specs.Events.{HeldCommand, Deed, Nothing, Wrote as WroteSectors, Event, OfQueue, CompletedWrite}
 use Rattle.history.specs.Facts.{Facts}
 use Rattle.history.specs.History.{Act, Accept, Complete, Reset, SoftwareReset, event_by}
@@ -21,7 +23,7 @@ use Rattle.history.specs.MethodLaws.{IsLookedAt}
 use Rattle.history.specs.Opening.{Origin}
 use Rattle.history.specs.Tcg.{tcg, command_read}
 use Rattle.history.specs.TransferLaws.{IsPermitted}
-use Rattle.history.proofs.MethodProofs.{looked_law}
+use Rattle.history.proofs.MethodProofs.{looked_event, looked_law}
 use Rattle.history.proofs.TransferProofs.{service_law}
 use Rattle.audit.specs.declared.rules.rule.Rule.TheVariants.{BeyondDrive}
 use Rattle.port_history.specs.Steps.{Effect}
@@ -37,8 +39,8 @@ use Rattle.hba.specs.declared.registers.Registers.{Registers}
 use Rattle.hba.specs.Blocks.{block_size, of_last_block}
 use Rattle.hba.specs.Showing.{served, moved, fetching}
 use Rattle.hba.specs.History.{Operation, account, acts_of, regs_of, drive_effect, effect_after}
-use Rattle.hba.specs.BitLaws.{word_has}
-use Rattle.hba.specs.Service.{GivesWhole, EndsFetched, EndsHeld, facts_behind, ReadServedLaw, IsWritten, WriteServedLaw, HeldReadLaw, IsWrittenHeld, HeldWriteLaw}
+use Rattle.hba.specs.BitLaws.{word_has, one_ends}
+use Rattle.hba.specs.Service.{GivesWhole, serving_fises, bytes_served, EndsFetched, EndsHeld, facts_behind, ReadServedLaw, IsWritten, WriteServedLaw, HeldReadLaw, IsWrittenHeld, HeldWriteLaw}
 use Rattle.hba.proofs.BitByBit.{served_issued}
 use Rattle.hba.proofs.BitsOfWords.{equal, has_without_one}
 use Rattle.hba.proofs.Active.{moved_active}
@@ -102,11 +104,12 @@ gives_so effect fises bytes f b t place brought talk arrival d m s =
     (delivered_law place brought fises bytes talk arrival two m s)
 
 -- Registers.
-issued_clear : (missed : Option Miss) (tag : ℕ) (interrupt : Bool) (fises : List Fis) (regs : Registers) → missed ≡ None
-    → fises ≡ answer_fis interrupt ready 0 ∷ [] → tag < slot_count
+issued_clear : (missed : Option Miss) (tag : ℕ) (fises told : List Fis) (regs : Registers) → missed ≡ None
+    → fises ≡ told → one_ends told ≡ true → tag < slot_count
     → word_has (served tag fises missed regs).port.issued tag ≡ false
-issued_clear missed tag interrupt fises regs m f t =
-    rw m (rw f (served_issued None tag tag (answer_fis interrupt ready 0 ∷ []) regs t t
+issued_clear missed tag fises told regs m f ends t =
+    rw m (rw f (served_issued None tag tag told regs t t
+    ∙ ap (λ (b : Bool). not (b && tag == tag) && word_has regs.port.issued tag) ends
     ∙ ap (λ (b : Bool). not b && word_has regs.port.issued tag) (equal tag tag refl)))
 
 active_clear : (missed : Option Miss) (tag count : ℕ) (to_host : Bool) (fises : List Fis) (regs : Registers) → missed ≡ None
@@ -117,55 +120,140 @@ active_clear missed tag count to_host fises regs m f t =
     ∙ has_without_one regs.port.active tag tag t t
     ∙ ap (λ (b : Bool). not b && word_has regs.port.active tag) (equal tag tag refl)))
 
--- A fetched command that is served by one FIS.
-answered_so : (o : Origin) (before : List Operation) (tag : ℕ) (fis payload : List ℕ) (command : Command) (bytes : List ℕ)
+-- A fetched command that is served.
+answered_so : (o : Origin) (before : List Operation) (tag : ℕ) (fis payload : List ℕ) (command : Command) (fises : List Fis) (bytes : List ℕ)
     → command_read (facts_behind o before).config (h2d_at fis) ≡ Ok (command, None)
     → (event_by (facts_behind o before) (Accept fis payload)).failed ≡ None
     → is_holding (event_by (facts_behind o before) (Accept fis payload)).deed ≡ false
-    → served_fises command ≡ answer_fis true ready 0 ∷ []
+    → served_fises command ≡ fises
     → block_of tcg (facts_behind o before) command ≡ bytes
-    → EndsFetched o before tag fis payload true bytes
-answered_so o before tag fis payload command bytes read failed holds told given =
+    → ((n m : ℕ) → data_taken (map (of_last_block n) fises) m ≡ m)
+    → ((n : ℕ) → one_ends (map (of_last_block n) fises) ≡ true)
+    → EndsFetched o before tag fis payload fises bytes
+answered_so o before tag fis payload command fises bytes read failed holds told given takes ends =
     let f = facts_behind o before in
     let event = event_by f (Accept fis payload) in
-    let n = (length payload + length (drive_effect o (account o before) (Accept fis payload)).bytes) / block_size in
-    let fises : (effect_after o (account o before) (Accept fis payload)).fises ≡ answer_fis true ready 0 ∷ [] =
-    ap (map (of_last_block n))
-    (fises_by event.failed (is_holding event.deed) (command_read f.config (h2d_at fis)) command failed holds read ∙ told) in
+    let blocks : List ℕ → ℕ = λ (xs : List ℕ). (length payload + length xs) / block_size in
+    let brings : (drive_effect o (account o before) (Accept fis payload)).bytes ≡ bytes =
+    data_by f event.failed (command_read f.config (h2d_at fis)) command failed read ∙ given in
+    let shows : (effect_after o (account o before) (Accept fis payload)).fises ≡ map (of_last_block (blocks bytes)) fises =
+    ap (map (of_last_block (blocks (drive_effect o (account o before) (Accept fis payload)).bytes)))
+    (fises_by event.failed (is_holding event.deed) (command_read f.config (h2d_at fis)) command failed holds read ∙ told)
+    ∙ ap (λ (xs : List ℕ). map (of_last_block (blocks xs)) fises) brings in
     record {
-      gives = gives_so (effect_after o (account o before) (Accept fis payload)) (answer_fis true ready 0 ∷ []) bytes fises
-          (data_by f event.failed (command_read f.config (h2d_at fis)) command failed read ∙ given) (λ m. refl);
+      gives = gives_so (effect_after o (account o before) (Accept fis payload)) (map (of_last_block (blocks bytes)) fises) bytes shows
+          brings (takes (blocks bytes));
       clear = λ arrival m t.
-          issued_clear arrival.missed tag true (effect_after o (account o before) (Accept fis payload)).fises
-          (moved arrival (fetching tag (regs_of o before))) m fises t;
+          issued_clear arrival.missed tag (effect_after o (account o before) (Accept fis payload)).fises
+          (map (of_last_block (blocks bytes)) fises) (moved arrival (fetching tag (regs_of o before))) m shows (ends (blocks bytes)) t;
     }
 
-pub read_law : ReadServedLaw
-read_law o before tag fis payload lba count looked on permitted =
+-- The commands by which data are reached, by which way they go.
+no_tag : {n : ℕ} → Some n ≡ None → ⊥
+no_tag h = cc
+
+no_read : Write ≡ Read → ⊥
+no_read h = cc
+
+no_write : Read ≡ Write → ⊥
+no_write h = cc
+
+by_reader : (P : Command → Type 0) (command : Command) (slot : Option ℕ) (op : Op) (lba count : ℕ)
+    → Reaches command slot op lba count → slot ≡ None → op ≡ Read
+    → P (ReadDma lba count) → P (ReadPio lba count) → P (Verify lba count) → P command
+by_reader P command slot op lba count (read_queued {lba = l} {count = n} {tag = t}) none is dma pio verified = absurd (no_tag none)
+by_reader P command slot op lba count (write_queued {lba = l} {count = n} {tag = t}) none is dma pio verified = absurd (no_tag none)
+by_reader P command slot op lba count (read_dma {lba = l} {count = n}) none is dma pio verified = dma
+by_reader P command slot op lba count (write_dma {lba = l} {count = n}) none is dma pio verified = absurd (no_read is)
+by_reader P command slot op lba count (read_pio {lba = l} {count = n}) none is dma pio verified = pio
+by_reader P command slot op lba count (write_pio {lba = l} {count = n}) none is dma pio verified = absurd (no_read is)
+by_reader P command slot op lba count (verify {lba = l} {count = n}) none is dma pio verified = verified
+
+by_writer : (P : Command → Type 0) (command : Command) (slot : Option ℕ) (op : Op) (lba count : ℕ)
+    → Reaches command slot op lba count → slot ≡ None → op ≡ Write
+    → P (WriteDma lba count) → P (WritePio lba count) → P command
+by_writer P command slot op lba count (read_queued {lba = l} {count = n} {tag = t}) none is dma pio = absurd (no_tag none)
+by_writer P command slot op lba count (write_queued {lba = l} {count = n} {tag = t}) none is dma pio = absurd (no_tag none)
+by_writer P command slot op lba count (read_dma {lba = l} {count = n}) none is dma pio = absurd (no_write is)
+by_writer P command slot op lba count (write_dma {lba = l} {count = n}) none is dma pio = dma
+by_writer P command slot op lba count (read_pio {lba = l} {count = n}) none is dma pio = absurd (no_write is)
+by_writer P command slot op lba count (write_pio {lba = l} {count = n}) none is dma pio = pio
+by_writer P command slot op lba count (verify {lba = l} {count = n}) none is dma pio = absurd (no_write is)
+
+-- Reads and verifications.
+read_so : (o : Origin) (before : List Operation) (tag : ℕ) (fis payload : List ℕ) (command : Command) (lba count : ℕ) (fises : List Fis)
+    (bytes : List ℕ) → Reaches command None Read lba count
+    → ((h : RegH2d) (brought : List ℕ) → looked_event tcg (facts_behind o before) h brought command None
+    ≡ by_verdict Nothing (on_drive (facts_behind o before) lba count) (verdict_on (facts_behind o before) Read lba count))
+    → served_fises command ≡ fises
+    → block_of tcg (facts_behind o before) command ≡ bytes
+    → ((n m : ℕ) → data_taken (map (of_last_block n) fises) m ≡ m)
+    → ((n : ℕ) → one_ends (map (of_last_block n) fises) ≡ true)
+    → IsLookedAt (facts_behind o before) (Accept fis payload) command None → on_drive (facts_behind o before) lba count ≡ true
+    → IsPermitted (ranges_in_force (facts_behind o before)) Read lba count
+    → EndsFetched o before tag fis payload fises bytes
+read_so o before tag fis payload command lba count fises bytes reaches same told given takes ends looked on permitted =
     let f = facts_behind o before in
     let v = verdict_on f Read lba count in
-    answered_so o before tag fis payload (ReadDma lba count) (read_by f lba count v)
-    (reads_so f fis payload (ReadDma lba count) looked)
-    ((service_law tcg f (Accept fis payload) (ReadDma lba count) None Read lba count looked read_dma tt on).served.1 permitted)
-    (ap (λ (e : Event). is_holding e.deed) (looked_law tcg f (Accept fis payload) (ReadDma lba count) None looked)
+    answered_so o before tag fis payload command fises bytes (reads_so f fis payload command looked)
+    ((service_law tcg f (Accept fis payload) command None Read lba count looked reaches tt on).served.1 permitted)
+    (ap (λ (e : Event). is_holding e.deed) (looked_law tcg f (Accept fis payload) command None looked ∙ same (h2d_at looked.fis) looked.payload)
     ∙ ap (λ (b : Bool). is_holding (by_verdict Nothing b v).deed) on ∙ none_held Nothing v refl)
-    refl refl
+    told given takes ends
 
-pub write_law : WriteServedLaw
-write_law o before tag fis payload lba count looked on permitted =
+pub read_law : ReadServedLaw
+read_law o before tag fis payload command lba count looked reaches on permitted =
+    let f = facts_behind o before in
+    let bytes : List ℕ = read_by f lba count (verdict_on f Read lba count) in
+    by_reader
+    (λ c. IsLookedAt f (Accept fis payload) c None → EndsFetched o before tag fis payload (serving_fises c) (bytes_served f c))
+    command None Read lba count reaches refl refl
+    (λ its. read_so o before tag fis payload (ReadDma lba count) lba count (answer_fis true ready 0 ∷ []) bytes read_dma
+    (λ h brought. refl) refl refl (λ n m. refl) (λ n. refl) its on permitted)
+    (λ its. read_so o before tag fis payload (ReadPio lba count) lba count (pio_fis true ready ∷ []) bytes read_pio
+    (λ h brought. refl) refl refl (λ n m. refl) (λ n. refl) its on permitted)
+    (λ its. read_so o before tag fis payload (Verify lba count) lba count (answer_fis true ready 0 ∷ []) [] verify
+    (λ h brought. refl) refl refl (λ n m. refl) (λ n. refl) its on permitted)
+    looked
+
+-- Writes.
+write_so : (o : Origin) (before : List Operation) (tag : ℕ) (fis payload : List ℕ) (command : Command) (lba count : ℕ)
+    → Reaches command None Write lba count
+    → ((h : RegH2d) (brought : List ℕ) → looked_event tcg (facts_behind o before) h brought command None
+    ≡ by_verdict (WroteSectors lba brought) (on_drive (facts_behind o before) lba count) (verdict_on (facts_behind o before) Write lba count))
+    → served_fises command ≡ serving_fises command
+    → block_of tcg (facts_behind o before) command ≡ []
+    → ((n m : ℕ) → data_taken (map (of_last_block n) (serving_fises command)) m ≡ m)
+    → ((n : ℕ) → one_ends (map (of_last_block n) (serving_fises command)) ≡ true)
+    → IsLookedAt (facts_behind o before) (Accept fis payload) command None → on_drive (facts_behind o before) lba count ≡ true
+    → IsPermitted (ranges_in_force (facts_behind o before)) Write lba count
+    → IsWritten o before tag fis payload command lba
+write_so o before tag fis payload command lba count reaches same told given takes ends looked on permitted =
     let f = facts_behind o before in
     let v = verdict_on f Write lba count in
     let deed : Deed = WroteSectors lba payload in
-    let failed = (service_law tcg f (Accept fis payload) (WriteDma lba count) None Write lba count looked write_dma tt on).served.1 permitted in
+    let failed = (service_law tcg f (Accept fis payload) command None Write lba count looked reaches tt on).served.1 permitted in
     let event : event_by f (Accept fis payload) ≡ unqueued_by deed v =
-    looked_law tcg f (Accept fis payload) (WriteDma lba count) None looked
+    looked_law tcg f (Accept fis payload) command None looked ∙ same (h2d_at looked.fis) looked.payload
     ∙ ap (λ (xs : List ℕ). by_verdict (WroteSectors lba xs) (on_drive f lba count) v) (sym (ap payload_in looked.accepts))
     ∙ ap (λ (b : Bool). by_verdict deed b v) on in
     record {
-      answered = answered_so o before tag fis payload (WriteDma lba count) [] (reads_so f fis payload (WriteDma lba count) looked)
-          failed (ap (λ (e : Event). is_holding e.deed) event ∙ none_held deed v refl) refl refl;
+      answered = answered_so o before tag fis payload command (serving_fises command) [] (reads_so f fis payload command looked)
+          failed (ap (λ (e : Event). is_holding e.deed) event ∙ none_held deed v refl) told given takes ends;
       written = ap (λ (e : Event). e.deed) event ∙ deed_so deed v (sym (ap (λ (e : Event). e.failed) event) ∙ failed);
     }
+
+pub write_law : WriteServedLaw
+write_law o before tag fis payload command lba count looked reaches on permitted =
+    let f = facts_behind o before in
+    by_writer
+    (λ c. IsLookedAt f (Accept fis payload) c None → IsWritten o before tag fis payload c lba)
+    command None Write lba count reaches refl refl
+    (λ its. write_so o before tag fis payload (WriteDma lba count) lba count write_dma
+    (λ h brought. refl) refl refl (λ n m. refl) (λ n. refl) its on permitted)
+    (λ its. write_so o before tag fis payload (WritePio lba count) lba count write_pio
+    (λ h brought. refl) refl refl (λ n m. refl) (λ n. refl) its on permitted)
+    looked
 
 -- A held command.
 completed_so : (o : Origin) (before : List Operation) (tag : ℕ) (payload : List ℕ) (h : HeldCommand) (to_host : Bool)

@@ -90,11 +90,12 @@ pub fn laws_of_access()
 /// Laws of service, over every origin and every list of operations: a command that did its work, where memory missed nothing
 /// and the PRDT has room.
 ///
-/// `read`, `written`: a transfer that the rows in force at its fetch permit. Its data lie over the blocks that its table
-/// names, or the media have what was brought; PRDBC counts what moved, its FIS is posted, nothing else is accessed, and its
-/// bit of PxCI is clear. `held_read`, `held_write`: a queued transfer at its completion. So it is with it, with DMA Setup and
-/// Set Device Bits, and its bit of PxSACT is clear. `rests`: where nothing is ready, as behind `run`, each command that was
-/// issued has ended, or the port does not work, or the device is busy in a software reset.
+/// `read`, `written`: a transfer by DMA or by PIO, or a verification, that the rows in force at its fetch permit. Its data
+/// lie over the blocks that its table names, or the media have what was brought; PRDBC counts what moved, its FISes are
+/// posted, nothing else is accessed, and its bit of PxCI is clear. `held_read`, `held_write`: a queued transfer at its
+/// completion. So it is with it, with DMA Setup and Set Device Bits, and its bit of PxSACT is clear. `rests`: where nothing
+/// is ready, as behind `run`, each command that was issued has ended, or the port does not work, or the device is busy in a
+/// software reset.
 pub fn laws_of_service()
     ensures read { ReadServedLaw }
     ensures written { WriteServedLaw }

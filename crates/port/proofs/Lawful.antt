@@ -92,7 +92,7 @@ issued_small config o list tag put lt lawful was =
     omega (
       arith,
       fis_brings config put.command tag,
-      payload_is put.command tag fit.sized.counted fit.sized.most,
+      payload_is config.profile put.command tag fit.sized,
       unqueued_small (is_queued_command put.command) (brought put.command) (brought_small put.command fit.sized.most),
     )
 
