@@ -50,20 +50,8 @@ impl Stage {
 pub fn is_queued(command: Command) -> bool
     ensures { result ≡ is_queued_command command }
 {
-    match command {
-        Command::ReadQueued { .. } | Command::WriteQueued { .. } => true,
-        Command::ReadDma { .. }
-        | Command::WriteDma { .. }
-        | Command::Send { .. }
-        | Command::Receive { .. }
-        | Command::Identify
-        | Command::ReadLog10 { .. }
-        | Command::Flush
-        | Command::SetFeatures { .. }
-        | Command::ReadLog { .. }
-        | Command::ReadPio { .. }
-        | Command::WritePio { .. }
-        | Command::Verify { .. }
-        | Command::Control { .. } => false,
-    }
+    matches!(
+        command,
+        Command::ReadQueued { .. } | Command::WriteQueued { .. }
+    )
 }
