@@ -1,7 +1,8 @@
 -- What the standards leave to a drive.
-use Rattle.std.specs.Prelude.{ℕ, suc, ◌+◌, ◌*◌, ◌==◌, nat_le, nat_lt, Bool, true, false, not, ◌&&◌, ◌||◌, List, [], ◌∷◌, ◌++◌, take, drop, slice_index, codes, bit_and, Option, None, Some, Result, Ok, Err, if◌then◌else◌}
+use Rattle.std.specs.Prelude.{ℕ, suc, ◌+◌, ◌*◌, ◌%◌, ◌==◌, nat_le, nat_lt, Bool, true, false, not, ◌&&◌, ◌||◌, List, [], ◌∷◌, ◌++◌, take, drop, slice_index, codes, bit_and, Option, None, Some, Result, Ok, Err, if◌then◌else◌}
 use Rattle.std.specs.List.{find, fold, list_any}
 use Rattle.std.specs.Str.{bytes_eq}
+use Rattle.basics.specs.Sums.{byte_sum}
 use Rattle.hex.specs.Hex.{decode_sized}
 use Rattle.hex.specs.declared.error.FromHexError.{FromHexError}
 use Rattle.script_lines.specs.Words.{nth_word}
@@ -46,9 +47,14 @@ differs_by_error_bits heard wanted = bytes_eq (take 5 wanted) (codes "fail ")
     && bytes_eq (take error_place heard) (take error_place wanted)
     && are_open_errors (error_in heard) (error_in wanted)
 
+-- how many bytes stand in front of the digits in `data HEX`
+abbrev pub data_place : ℕ
+data_place = 5
+
 -- a place of a line `data HEX` has a digit of these bytes
 abbrev pub has_digit : ℕ → Span → Bool
-has_digit place span = nat_le (5 + 2 * span.first) place && nat_lt place (5 + 2 * span.limit)
+has_digit place span =
+    nat_le (data_place + 2 * span.first) place && nat_lt place (data_place + 2 * span.limit)
 
 abbrev pub has_some_digit : List Span → ℕ → Bool
 has_some_digit spans place = list_any (has_digit place) spans
@@ -75,10 +81,29 @@ asks_level0 line =
     bytes_eq (nth_word 0 line) (codes "recv") && bytes_eq (nth_word 2 line) (codes "1")
 
 -- IDENTIFY DEVICE data (ACS-3): words 10 to 19 are the serial number, 23 to 26 the firmware's version, 27
--- to 46 the model number, 108 to 111 the World Wide Name
+-- to 46 the model number, 108 to 111 the World Wide Name, and 255, which a drive need not have, a checksum
 abbrev pub identity_spans : List Span
 identity_spans = record { first = 20; limit = 40 } ∷ record { first = 46; limit = 94 }
-    ∷ record { first = 216; limit = 224 } ∷ []
+    ∷ record { first = 216; limit = 224 } ∷ record { first = 510; limit = 512 } ∷ []
+
+-- The checksum adds up, where byte 510 says that there is one: the sum of all bytes is a multiple of 256
+-- (ACS-3, IDENTIFY DEVICE data, word 255).
+abbrev pub identity_size : ℕ
+identity_size = 512
+
+abbrev pub checksum_sign_place : ℕ
+checksum_sign_place = 510
+
+abbrev pub checksum_sign : ℕ
+checksum_sign = 0xa5
+
+abbrev pub adds_up : Result (List ℕ) FromHexError → Bool
+adds_up (Ok bytes) = not (slice_index bytes checksum_sign_place == checksum_sign)
+    || byte_sum bytes % 256 == 0
+adds_up (Err e) = false
+
+abbrev pub line_adds_up : List ℕ → Bool
+line_adds_up line = adds_up (decode_sized (drop data_place line) identity_size)
 
 abbrev pub asks_identity : List ℕ → Bool
 asks_identity line = bytes_eq (nth_word 0 line) (codes "identify")
@@ -92,7 +117,7 @@ is_by asked heard wanted other BlankSectors = differs_by_blanks heard wanted oth
 is_by asked heard wanted other VendorBytes =
     asks_level0 asked && differs_within vendor_spans 0 heard wanted
 is_by asked heard wanted other Identity =
-    asks_identity asked && differs_within identity_spans 0 heard wanted
+    asks_identity asked && differs_within identity_spans 0 heard wanted && line_adds_up heard
 
 -- the first of the freedoms that are given by which it does
 abbrev pub freedom_between : List Freedom → List ℕ → List ℕ → List ℕ → List ℕ → Option Freedom

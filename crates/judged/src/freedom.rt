@@ -1,9 +1,10 @@
 //! What the standards leave to a drive.
 
 ghost use Rattle.std.specs.Prelude.{◌≡◌};
-ghost use Rattle.judged.specs.Freedoms.{error_in, are_open_bits, are_open_errors, differs_by_error_bits, has_digit, has_some_digit, may_stand, differs_within, asks_level0, asks_identity};
+ghost use Rattle.judged.specs.Freedoms.{error_in, are_open_bits, are_open_errors, differs_by_error_bits, has_digit, has_some_digit, may_stand, differs_within, asks_level0, asks_identity, line_adds_up};
 
 use crate::blanks::{differs_by_blanks, front, is_digit};
+use basics::byte_sum;
 use script_lines::Words;
 use std::alloc::{AllocError, Global};
 use std::marker::Model;
@@ -19,7 +20,8 @@ pub enum Freedom {
     BlankSectors,
     /// Bytes 16 to 47 of Level 0 discovery, which are the vendor's (TCG Core 2.01, section 3.3.6).
     VendorBytes,
-    /// The serial number, the firmware's version, the model number and the World Wide Name (ACS-3, IDENTIFY DEVICE).
+    /// The serial number, the firmware's version, the model number and the World Wide Name, and the checksum, which a drive
+    /// need not have, but which has to add up (ACS-3, IDENTIFY DEVICE).
     Identity,
 }
 
@@ -91,8 +93,19 @@ const VENDOR_SPANS: [Span; 1] = [Span {
     limit: 48,
 }];
 
-/// The serial number; the firmware's version and the model number; the World Wide Name.
-const IDENTITY_SPANS: [Span; 3] = [
+/// How many bytes stand in front of the digits in a line `data HEX`.
+const DATA_PLACE: usize = 5;
+
+/// How many bytes IDENTIFY DEVICE data have.
+const IDENTITY_SIZE: usize = 512;
+
+/// The place of the byte that says that the last is a checksum, and what stands there then.
+const CHECKSUM_SIGN_PLACE: usize = 510;
+
+const CHECKSUM_SIGN: u8 = 0xa5;
+
+/// The serial number; the firmware's version and the model number; the World Wide Name; the checksum.
+const IDENTITY_SPANS: [Span; 4] = [
     Span {
         first: 20,
         limit: 40,
@@ -105,14 +118,18 @@ const IDENTITY_SPANS: [Span; 3] = [
         first: 216,
         limit: 224,
     },
+    Span {
+        first: 510,
+        limit: 512,
+    },
 ];
 
 /// Whether a place of a line `data HEX` has a digit of these bytes.
 fn has_digit(span: &Span, place: usize) -> bool
     ensures { result ≡ has_digit place span.now }
 {
-    let first = 5 + 2 * span.first as usize;
-    let limit = 5 + 2 * span.limit as usize;
+    let first = DATA_PLACE + 2 * span.first as usize;
+    let limit = DATA_PLACE + 2 * span.limit as usize;
     first <= place && place < limit
 }
 
@@ -167,6 +184,18 @@ fn asks_identity(line: &[u8]) -> bool
     Words::new(line).next_word() == b"identify".as_slice()
 }
 
+/// Whether the checksum of a line with IDENTIFY DEVICE data adds up, where it says that there is one.
+fn line_adds_up(line: &[u8]) -> bool
+    ensures { result ≡ line_adds_up line.now }
+{
+    let digits = line.get(DATA_PLACE..).unwrap_or(&[]);
+    let mut bytes = [0; IDENTITY_SIZE];
+    match hex::decode_to_slice(digits, &mut bytes) {
+        Ok(()) => bytes[CHECKSUM_SIGN_PLACE] != CHECKSUM_SIGN || byte_sum(&bytes) == 0,
+        Err(_) => false,
+    }
+}
+
 impl Freedom {
     ghost use Rattle.std.specs.Prelude.{◌≡◌, option_map};
     ghost use Rattle.judged.specs.Freedoms.{is_by, freedom_name, freedom_named};
@@ -182,7 +211,9 @@ impl Freedom {
                 asks_level0(asked) && differs_within(&VENDOR_SPANS, heard, wanted)
             }
             Freedom::Identity => {
-                asks_identity(asked) && differs_within(&IDENTITY_SPANS, heard, wanted)
+                asks_identity(asked)
+                    && differs_within(&IDENTITY_SPANS, heard, wanted)
+                    && line_adds_up(heard)
             }
         }
     }
