@@ -1,7 +1,7 @@
 -- The bytes of the FISes that the port sends, and what the drive reads in them.
 use Rattle.basics.specs.declared.profile.Profile.TheVariants.{Base, Field, Opal}
 use Rattle.basics.specs.declared.profile.Profile.{Profile}
-use Rattle.trusted_cmds.specs.Profiles.{payload_length_in, field_payload_length, short_write_dma, short_sectors}
+use Rattle.trusted_cmds.specs.Profiles.{payload_length_in, field_payload_length, short_write_dma}
 use Rattle.trusted_cmds.specs.General.{is_general, writes_more, sectors_moved}
 use Rattle.sp_cells.specs.Config.{Config}
 use Rattle.port_history.specs.Laws.{is_of_request, read_as, IsSized}
@@ -13,7 +13,7 @@ use Rattle.fis.specs.H2d.{h2d_at, IsH2dSpelling}
 use Rattle.fis.specs.declared.h2d.RegH2d.{RegH2d}
 use Rattle.trusted_cmds.specs.declared.command.Command.{Command}
 use Rattle.trusted_cmds.specs.declared.command.Command.TheVariants.{ReadQueued, WriteQueued, ReadDma, WriteDma, Send, Receive, Identify, ReadLog10, Flush, SetFeatures, ReadLog, ReadPio, WritePio, Verify, Control}
-use Rattle.trusted_cmds.specs.Commands.{reading, fis_with, fis_of, tag_with, payload_length, sectors, sectors_field, most_sectors, sector_size}
+use Rattle.trusted_cmds.specs.Commands.{reading, fis_with, fis_of, tag_with, payload_length, sectors, sectors_field, most_sectors, sector_size, short_sectors}
 use Rattle.history.specs.Answers.{payload_of}
 use Rattle.history.proofs.Payloads.{payload-of-command}
 use Rattle.port_history.specs.Requests.{fis_bytes, command_fis, log_fis, to_device, bytes_moved}
