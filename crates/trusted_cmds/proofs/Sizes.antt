@@ -4,15 +4,15 @@ use Rattle.std.proofs.Common.{◌≡◌, ◌∙◌, ◌*◌, ℕ, ◌==◌, ◌&
 use Rattle.basics.specs.declared.profile.Profile.TheVariants.{Field, Opal}
 use Rattle.fis.specs.declared.h2d.RegH2d.{RegH2d}
 use Rattle.trusted_cmds.specs.declared.command.Command.{Command}
-use Rattle.trusted_cmds.specs.declared.command.Command.TheVariants.{ReadQueued, WriteQueued, ReadDma, WriteDma, Send, Receive, Identify, ReadLog10, Flush, SetFeatures, ReadLog, ReadPio, WritePio, Verify, Control}
+use Rattle.trusted_cmds.specs.declared.command.Command.TheVariants.{ReadQueued, WriteQueued, ReadDma, WriteDma, Send, Receive, Identify, ReadLog10, Flush, SetFeatures, ReadLog, ReadPio, WritePio, Verify, Trim, Control}
 use Rattle.trusted_cmds.specs.declared.command.CommandError.{CommandError}
 use Rattle.trusted_cmds.specs.declared.command.CommandError.TheVariants.{Unknown, NotCommand}
 use Rattle.trusted_cmds.specs.declared.control.Control as controls
 use Rattle.trusted_cmds.specs.declared.control.Control.TheVariants.{SetMultiple, Idle, CheckPowerMode, Diagnose}
 use Rattle.trusted_cmds.specs.Commands.{sector_size, has_lba_bit, write_dma, is_send, is_known_code, fault_of, read_unless}
 use Rattle.trusted_cmds.specs.Profiles.{beside, read_or, reading_in, payload_length_in, field_payload_length, short_write_dma}
-use Rattle.trusted_cmds.specs.General.{CarriesMore, reads_pio, writes_pio, verifies, writes_more, moves_more, names_control, control_named, first_moved, sectors_moved, moving, more}
-use Rattle.trusted_cmds.proofs.Apart.{reads-at, writes-at, verifies-at, through-at, control-at, is_beside, beside-none}
+use Rattle.trusted_cmds.specs.General.{CarriesMore, reads_pio, writes_pio, verifies, writes_more, brings_more, blocks_brought, moves_more, asks_trim, names_control, control_named, first_moved, sectors_moved, moving, more}
+use Rattle.trusted_cmds.proofs.Apart.{reads-at, writes-at, verifies-at, at-code, through-at, trim-at, control-at, is_beside, beside-none}
 use Rattle.trusted_cmds.proofs.Profiles.{unknown as unknown-code}
 
 some-is : {c d : Command} → Some c ≡ Some d → c ≡ d
@@ -69,20 +69,24 @@ named h (Some control) c e is g =
     names h Diagnose e = grind arith
 
 pub more-carries : (h : RegH2d) (c : Command) → more h ≡ Some c → CarriesMore h c None
-more-carries h c g = by h.is_command (moves_more h.command) (has_lba_bit h.device) refl refl refl g
+more-carries h c g = by h.is_command (moves_more h.command) (has_lba_bit h.device) (asks_trim h) refl refl refl refl g
   where
-    by : (a b d : Bool) → h.is_command ≡ a → moves_more h.command ≡ b → has_lba_bit h.device ≡ d
-        → cond (not a) None (cond b (cond d (Some (moving h)) None) (option_map Control (control_named h))) ≡ Some c
+    by : (a b d e : Bool) → h.is_command ≡ a → moves_more h.command ≡ b → has_lba_bit h.device ≡ d → asks_trim h ≡ e
+        → cond (not a) None (cond b (cond d (Some (moving h)) None)
+        (cond e (Some (Trim h.count)) (option_map Control (control_named h)))) ≡ Some c
         → CarriesMore h c None
-    by false b d a-is b-is d-is g = absurd (none-some g)
-    by true true true a-is b-is d-is g = moving-carries h c a-is b-is d-is (some-is g)
-    by true true false a-is b-is d-is g = absurd (none-some g)
-    by true false d a-is b-is d-is g = named h (control_named h) c refl a-is g
+    by false b d e a-is b-is d-is e-is g = absurd (none-some g)
+    by true true true e a-is b-is d-is e-is g = moving-carries h c a-is b-is d-is (some-is g)
+    by true true false e a-is b-is d-is e-is g = absurd (none-some g)
+    by true false d true a-is b-is d-is e-is g =
+        carries h (Trim h.count) c (some-is g) (record { is_command = a-is; trims = e-is; count = refl })
+    by true false d false a-is b-is d-is e-is g = named h (control_named h) c refl a-is g
 
 -- The bytes that come with a command that is carried so: those of its sectors, where it writes.
 abbrev pub size_with : Command → ℕ
 size_with (WritePio lba count) = sector_size * count
 size_with (WriteDma lba count) = sector_size * count
+size_with (Trim blocks) = sector_size * blocks
 size_with _ = 0
 
 abbrev brings : ℕ → Bool
@@ -91,26 +95,36 @@ brings code = code == short_write_dma || code == write_dma || is_send code
 no-bytes : (h : RegH2d) → brings h.command ≡ false → field_payload_length h ≡ 0
 no-bytes h not = grind arith
 
-none-brought : (h : RegH2d) → writes_more h.command ≡ false → brings h.command ≡ false → payload_length_in Opal h ≡ 0
-none-brought h not none = ap (λ b. cond b (sector_size * sectors_moved h) (field_payload_length h)) not ∙ no-bytes h none
+none-brought : (h : RegH2d) → brings_more h.command ≡ false → brings h.command ≡ false → payload_length_in Opal h ≡ 0
+none-brought h not none = ap (λ b. cond b (sector_size * blocks_brought h) (field_payload_length h)) not ∙ no-bytes h none
 
-all-brought : (h : RegH2d) (count : ℕ) → writes_more h.command ≡ true → sectors_moved h ≡ count → payload_length_in Opal h ≡ sector_size * count
-all-brought h count is are =
-    ap (λ b. cond b (sector_size * sectors_moved h) (field_payload_length h)) is ∙ ap (λ n. sector_size * n) are
+all-brought : (h : RegH2d) (count : ℕ) → brings_more h.command ≡ true → writes_more h.command ≡ true → sectors_moved h ≡ count
+    → payload_length_in Opal h ≡ sector_size * count
+all-brought h count is writes are =
+    ap (λ b. cond b (sector_size * blocks_brought h) (field_payload_length h)) is
+    ∙ ap (λ b. sector_size * cond b (sectors_moved h) h.count) writes ∙ ap (λ n. sector_size * n) are
+
+entries-brought : (h : RegH2d) (blocks : ℕ) → asks_trim h ≡ true → h.count ≡ blocks → payload_length_in Opal h ≡ sector_size * blocks
+entries-brought h blocks trims are =
+    ap (λ b. cond b (sector_size * blocks_brought h) (field_payload_length h)) (trim-at brings_more true refl h trims)
+    ∙ ap (λ b. sector_size * cond b (sectors_moved h) h.count) (trim-at writes_more false refl h trims) ∙ ap (λ n. sector_size * n) are
 
 carried-size : (h : RegH2d) (c : Command) → CarriesMore h c None → payload_length_in Opal h ≡ size_with c
 carried-size h (ReadPio lba count) k =
-    none-brought h (reads-at writes_more false refl refl refl refl h.command k.code_is)
+    none-brought h (reads-at brings_more false refl refl refl refl h.command k.code_is)
     (reads-at brings false refl refl refl refl h.command k.code_is)
 carried-size h (WritePio lba count) k =
-    all-brought h count (writes-at writes_more true refl refl refl refl h.command k.code_is) k.count
+    all-brought h count (writes-at brings_more true refl refl refl refl h.command k.code_is)
+    (writes-at writes_more true refl refl refl refl h.command k.code_is) k.count
 carried-size h (Verify lba count) k =
-    none-brought h (verifies-at writes_more false refl refl h.command k.code_is)
+    none-brought h (verifies-at brings_more false refl refl h.command k.code_is)
     (verifies-at brings false refl refl h.command k.code_is)
 carried-size h (WriteDma lba count) k =
-    all-brought h count (through-at writes_more true refl h.command k.code_is) k.count
+    all-brought h count (through-at brings_more true refl h.command k.code_is)
+    (through-at writes_more true refl h.command k.code_is) k.count
+carried-size h (Trim blocks) k = entries-brought h blocks k.trims k.count
 carried-size h (Control control) k =
-    none-brought h (control-at writes_more false refl refl refl refl refl h control k.control_is)
+    none-brought h (control-at brings_more false refl refl refl refl refl h control k.control_is)
     (control-at brings false refl refl refl refl refl h control k.control_is)
 carried-size h (ReadQueued lba count) k = absurd k
 carried-size h (WriteQueued lba count) k = absurd k
@@ -136,9 +150,11 @@ either-at : (f : ℕ → Bool) (v a b : Bool) (code : ℕ) → (a ≡ true → f
 either-at f v true b code by-a by-b is = by-a refl
 either-at f v false b code by-a by-b is = by-b is
 
-written-at : (f : ℕ → Bool) (v : Bool) → f 0x30 ≡ v → f 0x34 ≡ v → f 0xc5 ≡ v → f 0x39 ≡ v → f 0x3d ≡ v → (code : ℕ)
-    → writes_more code ≡ true → f code ≡ v
-written-at f v a b c d e code is = either-at f v _ _ code (writes-at f v a b c d code) (through-at f v e code) is
+written-at : (f : ℕ → Bool) (v : Bool) → f 0x30 ≡ v → f 0x34 ≡ v → f 0xc5 ≡ v → f 0x39 ≡ v → f 0x3d ≡ v → f 0x06 ≡ v
+    → (code : ℕ) → brings_more code ≡ true → f code ≡ v
+written-at f v a b c d e g code is =
+    either-at f v _ _ code (λ w. either-at f v _ _ code (writes-at f v a b c d code) (through-at f v e code) w)
+    (at-code f v code 0x06 g) is
 
 no-command : (h : RegH2d) → h.is_command ≡ false → fault_of h ≡ Some NotCommand
 no-command h not = grind arith
@@ -155,7 +171,7 @@ no-ok : {e : CommandError} {x : Command × Option ℕ} → ◌≡◌ {A = Result
 no-ok h = cc
 
 -- The field profile refuses each write that the opal profile reads beside.
-not-by-field : (h : RegH2d) (x : Command × Option ℕ) → writes_more h.command ≡ true
+not-by-field : (h : RegH2d) (x : Command × Option ℕ) → brings_more h.command ≡ true
     → ◌≡◌ {A = Result (Command × Option ℕ) CommandError} (reading_in Field h) (Ok x) → ⊥
 not-by-field h x writes g = by h.is_command refl
   where
@@ -163,16 +179,16 @@ not-by-field h x writes g = by h.is_command refl
     by false is = no-ok (sym (refused h NotCommand (no-command h is) (none-beside h is)) ∙ g)
     by true is =
         no-ok (sym (refused h Unknown
-        (unknown-code h is (written-at is_known_code false refl refl refl refl refl h.command writes))
-        (beside-none h is (written-at is_beside false refl refl refl refl refl h.command writes))) ∙ g)
+        (unknown-code h is (written-at is_known_code false refl refl refl refl refl refl h.command writes))
+        (beside-none h is (written-at is_beside false refl refl refl refl refl refl h.command writes))) ∙ g)
 
 as-many : (h : RegH2d) (x : Command × Option ℕ) → ◌≡◌ {A = Result (Command × Option ℕ) CommandError} (reading_in Field h) (Ok x)
     → payload_length_in Opal h ≡ payload_length_in Field h
-as-many h x g = by (writes_more h.command) refl
+as-many h x g = by (brings_more h.command) refl
   where
-    by : (b : Bool) → writes_more h.command ≡ b → payload_length_in Opal h ≡ payload_length_in Field h
+    by : (b : Bool) → brings_more h.command ≡ b → payload_length_in Opal h ≡ payload_length_in Field h
     by true is = absurd (not-by-field h x is g)
-    by false is = ap (λ b. cond b (sector_size * sectors_moved h) (field_payload_length h)) is
+    by false is = ap (λ b. cond b (sector_size * blocks_brought h) (field_payload_length h)) is
 
 ok-same : {p q : Command × Option ℕ} → ◌≡◌ {A = Result (Command × Option ℕ) CommandError} (Ok p) (Ok q) → p ≡ q
 ok-same h = cc

@@ -2,7 +2,7 @@
 use Rattle.std.specs.Prelude.{◌≡◌, ℕ, ◌+◌, ◌*◌, ◌/◌, ◌%◌, ◌<◌, ◌≤◌, ◌==◌, Bool, true, false, not, ◌&&◌, ◌||◌, nat_lt, Option, Some, None, IfSome, Result, Ok, Err, if◌then◌else◌}
 use Rattle.fis.specs.declared.h2d.RegH2d.{RegH2d}
 use Rattle.trusted_cmds.specs.declared.command.Command.{Command}
-use Rattle.trusted_cmds.specs.declared.command.Command.TheVariants.{ReadQueued, WriteQueued, ReadDma, WriteDma, Send, Receive, Identify, ReadLog10, Flush, SetFeatures, ReadLog, ReadPio, WritePio, Verify, Control}
+use Rattle.trusted_cmds.specs.declared.command.Command.TheVariants.{ReadQueued, WriteQueued, ReadDma, WriteDma, Send, Receive, Identify, ReadLog10, Flush, SetFeatures, ReadLog, ReadPio, WritePio, Verify, Trim, Control}
 use Rattle.trusted_cmds.specs.declared.control.Control as controls
 use Rattle.trusted_cmds.specs.declared.control.Control.TheVariants.{SetMultiple, Idle, CheckPowerMode, Diagnose}
 use Rattle.trusted_cmds.specs.declared.feature.Feature.{Feature}
@@ -358,6 +358,13 @@ write_sectors_ext = 0x34
 abbrev pub verify_sectors_ext : ℕ
 verify_sectors_ext = 0x42
 
+-- DATA SET MANAGEMENT has the bit TRIM in Feature, and how many blocks of entries come in Count.
+abbrev pub data_set_management : ℕ
+data_set_management = 0x06
+
+abbrev pub trim_bit : ℕ
+trim_bit = 1
+
 -- SET MULTIPLE MODE, IDLE IMMEDIATE, CHECK POWER MODE, EXECUTE DEVICE DIAGNOSTIC.
 abbrev pub set_multiple : ℕ
 set_multiple = 0xc6
@@ -404,6 +411,7 @@ fis_of (ReadLog pages dma) tag = log_read_fis (log_place pages) (pages_asked pag
 fis_of (ReadPio lba count) tag = unqueued_fis read_sectors_ext lba count
 fis_of (WritePio lba count) tag = unqueued_fis write_sectors_ext lba count
 fis_of (Verify lba count) tag = unqueued_fis verify_sectors_ext lba count
+fis_of (Trim blocks) tag = fis_with data_set_management trim_bit 0 0 blocks
 fis_of (Control control) tag = fis_with (control_code control) 0 0 0 (control_count control)
 
 -- The tag that a command is read back with: only a queued one has it.

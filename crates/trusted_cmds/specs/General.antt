@@ -3,10 +3,11 @@
 use Rattle.std.specs.Prelude.{◌≡◌, ℕ, ◌%◌, ◌==◌, Bool, true, false, not, ◌&&◌, ◌||◌, Option, Some, None, option_map, if◌then◌else◌}
 use Rattle.fis.specs.declared.h2d.RegH2d.{RegH2d}
 use Rattle.trusted_cmds.specs.declared.command.Command.{Command}
-use Rattle.trusted_cmds.specs.declared.command.Command.TheVariants.{WriteDma, ReadPio, WritePio, Verify, Control}
+use Rattle.trusted_cmds.specs.declared.command.Command.TheVariants.{WriteDma, ReadPio, WritePio, Verify, Trim, Control}
 use Rattle.trusted_cmds.specs.declared.control.Control as controls
 use Rattle.trusted_cmds.specs.declared.control.Control.TheVariants.{SetMultiple, Idle, CheckPowerMode, Diagnose}
-use Rattle.trusted_cmds.specs.Commands.{sectors, has_lba_bit, short_lba, short_sectors, read_sectors_ext, write_sectors_ext, verify_sectors_ext, set_multiple, idle_immediate, check_power_mode, execute_diagnostic, sectors_in_block}
+use Rattle.trusted_cmds.specs.Trims.{are_trim_blocks}
+use Rattle.trusted_cmds.specs.Commands.{sectors, has_lba_bit, short_lba, short_sectors, read_sectors_ext, write_sectors_ext, verify_sectors_ext, data_set_management, trim_bit, set_multiple, idle_immediate, check_power_mode, execute_diagnostic, sectors_in_block}
 
 -- The codes (ACS-3, "Command codes") beside those by which the commands are written: of 28 bits, of READ and WRITE MULTIPLE,
 -- IDLE, and WRITE DMA FUA EXT.
@@ -61,6 +62,10 @@ moves_more code = reads_pio code || writes_pio code || verifies code || writes_t
 abbrev pub writes_more : ℕ → Bool
 writes_more code = writes_pio code || writes_through code
 
+-- DATA SET MANAGEMENT brings its entries.
+abbrev pub brings_more : ℕ → Bool
+brings_more code = writes_more code || code == data_set_management
+
 -- Those of 28 bits; the others have addresses of 48 bits.
 abbrev pub is_short_code : ℕ → Bool
 is_short_code code =
@@ -72,6 +77,10 @@ first_moved h = if is_short_code h.command then short_lba h else h.lba
 
 abbrev pub sectors_moved : RegH2d → ℕ
 sectors_moved h = if is_short_code h.command then short_sectors h else sectors h.count
+
+-- How many blocks come with one that brings some.
+abbrev pub blocks_brought : RegH2d → ℕ
+blocks_brought h = if writes_more h.command then sectors_moved h else h.count
 
 -- What such a transfer has in its fields, whose code is as it says.
 pub record IsMoving (h : RegH2d) (is_code : Bool) (first sectors_asked : ℕ) : Type 0 where
@@ -88,6 +97,16 @@ names_control Idle h = h.command == idle_immediate || h.command == idle_by_timer
 names_control CheckPowerMode h = h.command == check_power_mode
 names_control Diagnose h = h.command == execute_diagnostic
 
+-- DATA SET MANAGEMENT with TRIM: bit 0 of Feature is set, and Count has as many blocks as this drive takes.
+abbrev pub asks_trim : RegH2d → Bool
+asks_trim h =
+    h.command == data_set_management && h.feature % 2 == trim_bit && are_trim_blocks h.count
+
+pub record IsTrim (h : RegH2d) (blocks : ℕ) : Type 0 where
+  pub is_command : h.is_command ≡ true
+  pub trims : asks_trim h ≡ true
+  pub count : h.count ≡ blocks
+
 pub record IsControl (h : RegH2d) (control : controls.Control) : Type 0 where
   pub is_command : h.is_command ≡ true
   pub control_is : names_control control h ≡ true
@@ -98,6 +117,7 @@ CarriesMore h (ReadPio lba count) None = IsMoving h (reads_pio h.command) lba co
 CarriesMore h (WritePio lba count) None = IsMoving h (writes_pio h.command) lba count
 CarriesMore h (Verify lba count) None = IsMoving h (verifies h.command) lba count
 CarriesMore h (WriteDma lba count) None = IsMoving h (writes_through h.command) lba count
+CarriesMore h (Trim blocks) None = IsTrim h blocks
 CarriesMore h (Control control) None = IsControl h control
 CarriesMore h _ _ = ⊥
 
@@ -121,12 +141,13 @@ more h =
     if not h.is_command then None
     else (if moves_more h.command
     then (if has_lba_bit h.device then Some (moving h) else None)
-    else option_map Control (control_named h))
+    else (if asks_trim h then Some (Trim h.count) else option_map Control (control_named h)))
 
 -- The commands that the opal profile alone has.
 abbrev pub is_general : Command → Bool
 is_general (ReadPio lba count) = true
 is_general (WritePio lba count) = true
 is_general (Verify lba count) = true
+is_general (Trim blocks) = true
 is_general (Control control) = true
 is_general _ = false

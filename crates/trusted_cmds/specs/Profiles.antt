@@ -5,14 +5,15 @@ use Rattle.basics.specs.declared.profile.Profile.{Profile}
 use Rattle.basics.specs.declared.profile.Profile.TheVariants.{Base, Field, Opal}
 use Rattle.fis.specs.declared.h2d.RegH2d.{RegH2d}
 use Rattle.trusted_cmds.specs.declared.command.Command.{Command}
-use Rattle.trusted_cmds.specs.declared.command.Command.TheVariants.{ReadDma, WriteDma, Flush, SetFeatures, ReadLog}
+use Rattle.trusted_cmds.specs.declared.command.Command.TheVariants.{ReadDma, WriteDma, Flush, SetFeatures, ReadLog, Trim}
 use Rattle.trusted_cmds.specs.declared.command.CommandError.{CommandError}
 use Rattle.trusted_cmds.specs.declared.feature.Feature.{Feature}
 use Rattle.trusted_cmds.specs.declared.feature.Feature.TheVariants.{WriteCache, ReadLookAhead, TransferMode}
 use Rattle.trusted_cmds.specs.declared.log_pages.LogPages.{LogPages}
 use Rattle.trusted_cmds.specs.declared.log_pages.LogPages.TheVariants.{Directory, IdentifyData}
 use Rattle.trusted_cmds.specs.Commands.{sector_size, has_lba_bit, is_log_read, read_log, read_log_dma, set_features, identify_data_address, enable_write_cache, disable_write_cache, enable_look_ahead, disable_look_ahead, set_transfer_mode, by_dma, short_lba, short_sectors, Carries, IsPlain, payload_length, reading}
-use Rattle.trusted_cmds.specs.General.{CarriesMore, more, is_general, writes_more, sectors_moved}
+use Rattle.trusted_cmds.specs.Trims.{are_trim_blocks}
+use Rattle.trusted_cmds.specs.General.{CarriesMore, more, is_general, brings_more, blocks_brought}
 
 -- The codes of the spellings (ACS-3, "Command codes").
 abbrev pub short_read_dma : ℕ
@@ -162,6 +163,7 @@ reading_in Opal h = read_or (read_or (reading h) (beside h)) (more h)
 abbrev pub field_offers : Command → Bool
 field_offers (SetFeatures (TransferMode mode)) = is_transfer_mode mode
 field_offers (ReadLog (IdentifyData first count) dma) = are_pages first count
+field_offers (Trim blocks) = are_trim_blocks blocks
 field_offers _ = true
 
 -- The commands that a profile has: SET FEATURES and the pages of the device's logs belong to the field profile, and so to
@@ -183,4 +185,5 @@ abbrev pub payload_length_in : Profile → RegH2d → ℕ
 payload_length_in Base h = payload_length h
 payload_length_in Field h = field_payload_length h
 payload_length_in Opal h =
-    if writes_more h.command then sector_size * sectors_moved h else field_payload_length h
+    if brings_more h.command
+    then sector_size * blocks_brought h else field_payload_length h

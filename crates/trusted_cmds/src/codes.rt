@@ -3,7 +3,9 @@
 ghost use Rattle.std.specs.Prelude.{◌≡◌, ◌==◌, ◌||◌};
 ghost use Rattle.trusted_cmds.specs.Commands.{is_queued, is_transfer, is_send, is_receive, is_log_read, is_known_code};
 ghost use Rattle.trusted_cmds.specs.Profiles.{is_short_transfer};
-ghost use Rattle.trusted_cmds.specs.General.{reads_pio, writes_pio, verifies, writes_through, moves_more, writes_more, is_short_code};
+ghost use Rattle.trusted_cmds.specs.General.{reads_pio, writes_pio, verifies, writes_through, moves_more, writes_more, brings_more, is_short_code};
+
+pub(crate) const DATA_SET_MANAGEMENT: u8 = 0x06;
 
 pub(crate) const READ_SECTORS: u8 = 0x20;
 
@@ -159,6 +161,13 @@ pub(crate) fn writes_more(command: u8) -> bool
     ensures { result ≡ writes_more command }
 {
     writes_pio(command) || writes_through(command)
+}
+
+/// Whether a command code is one of those that `Opal` has beside, and that bring data.
+pub(crate) fn brings_more(command: u8) -> bool
+    ensures { result ≡ brings_more command }
+{
+    writes_more(command) || command == DATA_SET_MANAGEMENT
 }
 
 /// Whether it is one of them whose address has 28 bits.

@@ -78,6 +78,11 @@ pub enum Command {
         lba: u64,
         count: u32,
     },
+    /// DATA SET MANAGEMENT with TRIM (ACS-3): so many blocks of entries come, 1 to 8, and each names sectors that are to hold
+    /// nothing (`extents_in`). Only `Opal` has it.
+    Trim {
+        blocks: u16,
+    },
     /// A command of no sectors and no data. Only `Opal` has it.
     Control {
         control: Control,

@@ -13,6 +13,7 @@ mod payload;
 mod reading;
 mod reset;
 mod spelling;
+mod trim;
 
 pub use block::{BLOCK_COM_ID, SidBlock, is_block_sid};
 pub use codes::is_queued;
@@ -27,3 +28,4 @@ pub use reset::{
     RESET_COM_ID, RESET_PROTOCOL, is_certificate_data, is_programmatic_reset, is_protocol_list,
 };
 pub use spelling::to_fis;
+pub use trim::{Extent, extents_in};

@@ -4,7 +4,7 @@ ghost use Rattle.std.specs.Prelude.{◌≡◌, ◌⊎◌, Option, Some, None, If
 ghost use Rattle.trusted_cmds.specs.declared.command.Command.{Command};
 ghost use Rattle.trusted_cmds.specs.Commands.{Carries, IsCounted, fault_of, command_of, command_without_sectors, tag_in, reading};
 ghost use Rattle.trusted_cmds.specs.Profiles.{CarriesIn, CarriesBeside, is_short_transfer, short_transfer, beside_without_sectors, beside, reading_in, read_or, payload_length_in};
-ghost use Rattle.trusted_cmds.specs.General.{CarriesMore, more, writes_more};
+ghost use Rattle.trusted_cmds.specs.General.{CarriesMore, more, brings_more};
 ghost use Rattle.trusted_cmds.specs.BlockSid.{is_block_sid};
 ghost use Rattle.basics.specs.declared.profile.Profile.TheVariants.{Base, Field, Opal};
 
@@ -231,7 +231,7 @@ pub fn laws_of_profiles()
     ensures known { (p : Profile) (h : RegH2d) → fault_of h ≡ None → reading_in p h ≡ reading h }
     ensures field { (h : RegH2d) → reading_in Field h ≡ read_or (reading h) (beside h) }
     ensures opal { (h : RegH2d) → reading_in Opal h ≡ read_or (reading_in Field h) (more h) }
-    ensures brought { (h : RegH2d) → writes_more h.command ≡ false
+    ensures brought { (h : RegH2d) → brings_more h.command ≡ false
         → payload_length_in Opal h ≡ payload_length_in Field h }
     ensures blocking { (c : Command) → is_block_sid Opal c ≡ is_block_sid Field c }
 {}

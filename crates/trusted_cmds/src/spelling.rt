@@ -12,6 +12,9 @@ use crate::fields::{ERROR_LOG_ADDRESS, LBA_DEVICE, sectors_field};
 use crate::log_pages::log_place;
 use fis::{Lba, PortNumber, RegH2d, Tag};
 
+/// The bit TRIM of Feature.
+const TRIM_BIT: u16 = 1;
+
 /// A FIS with these fields, and zeros in those that no command has.
 fn fis_with(code: u8, feature: u16, lba: u64, device: u8, count: u16) -> RegH2d
     requires { lba < 2 ^ 48 }
@@ -124,6 +127,7 @@ pub fn to_fis(command: &Command, tag: Tag) -> RegH2d
         Command::ReadPio { lba, count } => unqueued(READ_SECTORS_EXT, lba, count),
         Command::WritePio { lba, count } => unqueued(WRITE_SECTORS_EXT, lba, count),
         Command::Verify { lba, count } => unqueued(VERIFY_SECTORS_EXT, lba, count),
+        Command::Trim { blocks } => fis_with(DATA_SET_MANAGEMENT, TRIM_BIT, 0, 0, blocks),
         Command::Control { control } => fis_with(control.code(), 0, 0, 0, control.count()),
     }
 }
