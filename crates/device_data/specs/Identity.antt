@@ -5,6 +5,7 @@ use Rattle.basics.specs.declared.profile.Profile.{Profile}
 use Rattle.basics.specs.declared.profile.Profile.TheVariants.{Base, Field, Opal}
 use Rattle.sp_cells.specs.Config.{Config}
 use Rattle.trusted_cmds.specs.Commands.{sectors_in_block}
+use Rattle.trusted_cmds.specs.Trims.{most_trim_blocks}
 use Rattle.trusted_cmds.specs.Profiles.{is_multiword, is_ultra}
 use Rattle.device_data.specs.Checksums.{with_sum}
 use Rattle.device_data.specs.declared.settings.Settings.{Settings}
@@ -118,17 +119,21 @@ field_identity config settings =
 -- and WRITE MULTIPLE has at most. 59: how many it has now, and bit 8 says that this is set; there is no SANITIZE (bit 12). 86:
 -- bit 15 says that words 119 and 120 are told, and so does bit 14 of each; they have no further bit. 217: a medium that does
 -- not rotate. 222: a serial transport (bits 15:12 are 1h), by SATA 1.0a to SATA 3.0 (bits 1 to 5), since word 76 has the speed
--- that came with SATA 3.0. All other words are the field profile's: in 82 and 85 Power Management (bit 3) is clear, since STANDBY
--- and SLEEP are not there; in 84 and 87 so is WRITE DMA FUA EXT with WRITE MULTIPLE FUA EXT (bit 6), since the second is not
--- there; and 105 and 169 are 0, since DATA SET MANAGEMENT is not there.
+-- that came with SATA 3.0. 69: trimmed sectors read the same each time (bit 14), zeros (bit 5). 105: how many blocks of entries a
+-- DATA SET MANAGEMENT brings at most, and 169: it has TRIM. All other words are the field profile's: in 82 and 85 Power Management
+-- (bit 3) is clear, since STANDBY and SLEEP are not there; and in 84 and 87 so is WRITE DMA FUA EXT with WRITE MULTIPLE FUA EXT
+-- (bit 6), since the second is not there.
 abbrev pub opal_word : Config → Settings → ℕ → ℕ
 opal_word config settings word =
     if word == 47 then 0x8000 + sectors_in_block
     else (if word == 59 then 0x0100 + sectors_in_block
+    else (if word == 69 then 0x4020
     else (if word == 86 then 0xb400
+    else (if word == 105 then most_trim_blocks
     else (if is_between 119 120 word then 0x4000
+    else (if word == 169 then 0x0001
     else (if word == 217 then 0x0001
-    else (if word == 222 then 0x103e else field_word config settings word)))))
+    else (if word == 222 then 0x103e else field_word config settings word))))))))
 
 -- Words 0 to 254.
 abbrev pub opal_words : Config → Settings → List ℕ

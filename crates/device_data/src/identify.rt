@@ -11,7 +11,7 @@ use crate::settings::Settings;
 use basics::{Profile, byte_sum};
 use sp_cells::DriveConfig;
 use std::alloc::{AllocError, Global};
-use trusted_cmds::{is_multiword, is_ultra};
+use trusted_cmds::{MOST_TRIM_BLOCKS, is_multiword, is_ultra};
 
 /// How many words an answer to IDENTIFY DEVICE has.
 const WORDS: u16 = 256;
@@ -192,9 +192,11 @@ fn opal_word(config: &DriveConfig, settings: &Settings, word: u16) -> u16
     match word {
         47 => 0x8000 + SECTORS_IN_BLOCK,
         59 => 0x0100 + SECTORS_IN_BLOCK,
+        69 => 0x4020,
         86 => 0xb400,
+        105 => MOST_TRIM_BLOCKS,
         119 | 120 => 0x4000,
-        217 => 0x0001,
+        169 | 217 => 0x0001,
         222 => 0x103e,
         _ => field_word(config, settings, word),
     }

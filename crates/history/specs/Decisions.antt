@@ -3,7 +3,8 @@
 use Rattle.basics.specs.declared.profile.Profile.TheVariants.{Base, Field, Opal}
 use Rattle.basics.specs.declared.profile.Profile.{Profile}
 use Rattle.basics.specs.Profiles.{has_opal}
-use Rattle.std.specs.Prelude.{ℕ, zero, suc, ◌+◌, ◌-◌, ◌*◌, ◌==◌, Bool, true, false, not, ◌&&◌, ◌||◌, nat_le, nat_lt, List, length, slice_index, Option, Some, None, is_some, Result, Ok, Err, if◌then◌else◌}
+use Rattle.std.specs.Prelude.{ℕ, zero, suc, ◌+◌, ◌-◌, ◌*◌, ◌==◌, Bool, true, false, not, ◌&&◌, ◌||◌, nat_le, nat_lt, List, [], ◌∷◌, length, slice_index, Option, Some, None, is_some, Result, Ok, Err, if◌then◌else◌}
+use Rattle.std.specs.List.{list_all}
 use Rattle.fis.specs.Types.{h2d_type}
 use Rattle.fis.specs.Tags.{slot_count}
 use Rattle.fis.specs.H2d.{h2d_at}
@@ -21,8 +22,10 @@ use Rattle.audit.specs.declared.reason.Why.{Why}
 use Rattle.audit.specs.declared.rules.rule.Rule.{Rule}
 use Rattle.audit.specs.declared.rules.rule.Rule.TheVariants.{NoCommand, Unreadable, QueueFailed, Mixed, TagHeld, BeyondDrive, Protocol, ComId}
 use Rattle.trusted_cmds.specs.declared.command.Command.{Command}
-use Rattle.trusted_cmds.specs.declared.command.Command.TheVariants.{ReadQueued, WriteQueued, ReadDma, WriteDma, Send, Receive, Identify, ReadLog10, Flush, SetFeatures, ReadLog, ReadPio, WritePio, Verify, Control}
+use Rattle.trusted_cmds.specs.declared.command.Command.TheVariants.{ReadQueued, WriteQueued, ReadDma, WriteDma, Send, Receive, Identify, ReadLog10, Flush, SetFeatures, ReadLog, ReadPio, WritePio, Verify, Trim, Control}
 use Rattle.trusted_cmds.specs.declared.command.CommandError.{CommandError}
+use Rattle.trusted_cmds.specs.declared.trim.Extent.{Extent}
+use Rattle.trusted_cmds.specs.Trims.{extents_in}
 use Rattle.device_data.specs.Discovery.{first_com_id, com_ids}
 use Rattle.device_data.specs.ErrorLog.{failure_by}
 use Rattle.locking.specs.declared.ranges.Verdict.{Verdict}
@@ -31,7 +34,7 @@ use Rattle.locking.specs.Range.{RangeRows}
 use Rattle.locking.specs.Ranges.{ranges_in}
 use Rattle.locking.specs.Verdict.{verdict_of}
 use Rattle.sessions.specs.Deeds.{StackTold}
-use Rattle.history.specs.Events.{InSession, Silent, HeldCommand, Held, Completed, CompletedWrite, QueueFailed, QueueMended, Deed, Nothing, OfQueue, Wrote, Took, WasReset, Chose, Event, did}
+use Rattle.history.specs.Events.{InSession, Silent, HeldCommand, Held, Completed, CompletedWrite, QueueFailed, QueueMended, Deed, Nothing, OfQueue, Wrote, Trimmed, Took, WasReset, Chose, Event, did, or_else}
 use Rattle.history.specs.Facts.{Facts}
 use Rattle.history.specs.Items.{Items}
 
@@ -111,6 +114,31 @@ abbrev pub unqueued_transfer : Facts → Deed → Op → ℕ → ℕ → Event
 unqueued_transfer f deed op lba count =
     if on_drive f lba count
     then unqueued_by deed (verdict_on f op lba count) else fails not_found None (Some BeyondDrive)
+
+-- What a TRIM names is judged as writes are, each extent by itself; all of it is trimmed, or nothing (ACS-3, DATA SET
+-- MANAGEMENT; SIIS 1.05, commands of a locked range).
+abbrev pub denial_by : Verdict → Option Why
+denial_by Serve = None
+denial_by Shadow = None
+denial_by (Denied why) = Some why
+
+abbrev pub are_on_drive : Facts → List Extent → Bool
+are_on_drive f extents = list_all (λ (extent : Extent). on_drive f extent.lba extent.count) extents
+
+-- The first of the extents that is denied says why.
+unfoldable pub first_denial : Facts → List Extent → Option Why
+first_denial f [] = None
+first_denial f (extent ∷ extents) =
+    or_else (denial_by (verdict_on f Write extent.lba extent.count)) (first_denial f extents)
+
+abbrev pub trimmed_by : List Extent → Option Why → Event
+trimmed_by extents None = did (Trimmed extents)
+trimmed_by extents (Some why) = fails aborted (Some why) None
+
+abbrev pub trimmed : Facts → List Extent → Event
+trimmed f extents =
+    if are_on_drive f extents
+    then trimmed_by extents (first_denial f extents) else fails not_found None (Some BeyondDrive)
 
 -- Trusted commands (ACS-3, TRUSTED SEND and TRUSTED RECEIVE; Opal SSC 2.01, section 3.1.1).
 
@@ -199,6 +227,7 @@ unqueued_of items f payload (ReadPio lba count) = unqueued_transfer f Nothing Re
 unqueued_of items f payload (WritePio lba count) =
     unqueued_transfer f (Wrote lba payload) Write lba count
 unqueued_of items f payload (Verify lba count) = unqueued_transfer f Nothing Read lba count
+unqueued_of items f payload (Trim blocks) = trimmed f (extents_in payload)
 unqueued_of items f payload (Control control) = did Nothing
 unqueued_of items f payload (ReadQueued lba count) = refuses NoCommand
 unqueued_of items f payload (WriteQueued lba count) = refuses NoCommand

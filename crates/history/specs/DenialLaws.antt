@@ -12,7 +12,8 @@ use Rattle.tcg_tokens.specs.Reading.{reading as message_in}
 use Rattle.tcg_tokens.specs.Tree.{Trees}
 use Rattle.compacket.specs.Frames.{Frame}
 use Rattle.trusted_cmds.specs.declared.command.Command.{Command}
-use Rattle.trusted_cmds.specs.declared.command.Command.TheVariants.{ReadQueued, WriteQueued, ReadDma, WriteDma, ReadPio, WritePio, Verify}
+use Rattle.trusted_cmds.specs.declared.command.Command.TheVariants.{ReadQueued, WriteQueued, ReadDma, WriteDma, ReadPio, WritePio, Verify, Trim}
+use Rattle.trusted_cmds.specs.Trims.{extents_in}
 use Rattle.locking.specs.declared.ranges.Verdict.TheVariants.{Denied}
 use Rattle.sessions.specs.Attempts.{attempt_failure as failure_of}
 use Rattle.tcg_calls.specs.Asks.{uid_of}
@@ -25,7 +26,7 @@ use Rattle.sessions.specs.declared.opening.Opening.{Opening}
 use Rattle.sessions.specs.declared.opening.StartVerdict.TheVariants.{Attempted}
 use Rattle.sessions.specs.Starts.{opening_of}
 use Rattle.history.specs.Facts.{Facts, standing}
-use Rattle.history.specs.Decisions.{on_drive, verdict_on}
+use Rattle.history.specs.Decisions.{on_drive, verdict_on, are_on_drive, first_denial}
 use Rattle.history.specs.Tcg.{is_manager, is_method_of_manager, start_verdict, judgement_on}
 use Rattle.history.specs.History.{Act, event_by}
 use Rattle.history.specs.MethodLaws.{IsLookedAt, IsSent, IsCall}
@@ -58,6 +59,13 @@ pub record TransferDenied (f : Facts) (act : Act) (why : Why) : Type 0 where
   pub free : IsFree f tag
   pub on_drive : on_drive f lba count ≡ true
   pub verdict : verdict_on f op lba count ≡ Denied why
+
+-- A TRIM whose extents are all on the drive, and the first of them that is denied.
+pub record TrimDenied (f : Facts) (act : Act) (why : Why) : Type 0 where
+  pub blocks : ℕ
+  pub looked : IsLookedAt f act (Trim blocks) None
+  pub on_drive : are_on_drive f (extents_in looked.payload) ≡ true
+  pub denial : first_denial f (extents_in looked.payload) ≡ Some why
 
 -- A call of the right shape that its ACEs deny.
 pub record MethodDenied (f : Facts) (act : Act) (why : Why) : Type 0 where
@@ -108,7 +116,7 @@ pub record StartDenied (f : Facts) (act : Act) (why : Why) : Type 0 where
 abbrev pub IsDenied : Facts → Act → Why → Type 0
 IsDenied f act why =
     TransferDenied f act why ⊎ MethodDenied f act why ⊎ AttemptDenied f act why
-    ⊎ StartDenied f act why
+    ⊎ StartDenied f act why ⊎ TrimDenied f act why
 
 -- Exactly where it was denied for this reason; the left side has one reason at most.
 abbrev pub DenialLaw : Type 0

@@ -7,6 +7,7 @@ use Rattle.audit.specs.declared.rules.rule.Rule.{Rule}
 use Rattle.trusted_cmds.specs.declared.command.Command.{Command}
 use Rattle.trusted_cmds.specs.declared.block.SidBlock.{SidBlock}
 use Rattle.trusted_cmds.specs.declared.feature.Feature.{Feature}
+use Rattle.trusted_cmds.specs.declared.trim.Extent.{Extent}
 use Rattle.locking.specs.declared.ranges.Verdict.{Verdict}
 use Rattle.device_data.specs.declared.log_page.Failure.{Failure}
 use Rattle.sessions.specs.Deeds.{SessionDeed}
@@ -41,6 +42,8 @@ pub data Deed : Type 0 where
   OfQueue : (deed : QueueDeed) → Deed
   -- an unqueued write
   Wrote : (lba : ℕ) (bytes : List ℕ) → Deed
+  -- sectors were trimmed
+  Trimmed : (extents : List Extent) → Deed
   -- a receive that took the waiting response
   Took : (com_id : ℕ) → Deed
   WasReset : (kind : ℕ) → Deed

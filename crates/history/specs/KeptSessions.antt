@@ -11,7 +11,7 @@ use Rattle.sessions.specs.Live.{Holder, Live, session_at, found}
 use Rattle.sessions.specs.Made.{Leaves, LeavesAll, LivesAs}
 use Rattle.history.specs.Opening.{Origin}
 use Rattle.sessions.specs.Deeds.{Begun}
-use Rattle.history.specs.Events.{Deed, Nothing, InSession, OfQueue, Wrote, Took, WasReset, BlockedSid, Chose, Event, or_else}
+use Rattle.history.specs.Events.{Deed, Nothing, InSession, OfQueue, Wrote, Trimmed, Took, WasReset, BlockedSid, Chose, Event, or_else}
 use Rattle.history.specs.Readers.{session_on, authorities, first_number, next_number}
 use Rattle.history.specs.Facts.{facts, session_named}
 
@@ -55,6 +55,7 @@ LivesBy Nothing l m = LeavesAll l m
 LivesBy (InSession deed response) l m = LivesAs deed l m
 LivesBy (OfQueue deed) l m = LeavesAll l m
 LivesBy (Wrote lba bytes) l m = LeavesAll l m
+LivesBy (Trimmed extents) l m = LeavesAll l m
 LivesBy (Took com_id) l m = LeavesAll l m
 LivesBy (WasReset kind) l m = Leaves (λ h. None) l m
 LivesBy (BlockedSid block) l m = LeavesAll l m

@@ -2,7 +2,7 @@
 -- queue, waiting responses. By SP, as an SP has one session at a time. The newest event comes
 -- first.
 use Rattle.std.specs.Prelude.{ℕ, ◌+◌, ◌-◌, ◌*◌, ◌/◌, ◌^◌, ◌==◌, Bool, true, false, ◌&&◌, nat_le, nat_lt, List, [], ◌∷◌, ◌++◌, length, take, drop, Option, Some, None, unwrap_or, if◌then◌else◌}
-use Rattle.std.specs.List.{flat_map}
+use Rattle.std.specs.List.{flat_map, list_any}
 use Rattle.sp_cells.specs.declared.names.Uid.{Uid}
 use Rattle.sp_cells.specs.declared.names.Sp.{Sp}
 use Rattle.sp_cells.specs.declared.names.Sp.TheVariants.{Admin, Locking}
@@ -18,6 +18,8 @@ use Rattle.audit.specs.declared.reason.AttemptFailure.{AttemptFailure}
 use Rattle.audit.specs.declared.reason.AttemptFailure.TheVariants.{WrongPin, LockedOut, Disabled, Blocked, Unknown}
 use Rattle.shadow_mbr.specs.Erasure.{is_erased}
 use Rattle.shadow_mbr.specs.Stored.{sector_size, zeros}
+use Rattle.trusted_cmds.specs.declared.trim.Extent.{Extent}
+use Rattle.trusted_cmds.specs.Trims.{has_sector}
 use Rattle.history.specs.Opening.{Origin}
 use Rattle.sp_tables.specs.Looks.{RowLook}
 use Rattle.sessions.specs.Deeds.{cells_set, Change, Sets, Restores, Resets, Begun, SessionDeed, Started, Tried, Changed, Began, Committed, Aborted, Ended, Activated, Reverted, StackReset, erased_by}
@@ -28,7 +30,7 @@ use Rattle.history.specs.Changes.{apply_all, byte_in, with_tries}
 use Rattle.device_data.specs.declared.log_page.Failure.{Failure}
 use Rattle.device_data.specs.declared.settings.Settings.{Settings}
 use Rattle.device_data.specs.Settings.{first_settings, with_feature, settings_at_reset}
-use Rattle.history.specs.Events.{HeldCommand, QueueDeed, Held, Completed, CompletedWrite, QueueFailed, QueueMended, QueueEnded, Deed, InSession, OfQueue, Wrote, Took, WasReset, BlockedSid, Chose, Event, latest, since, every, count, Left, Silent, Dropped}
+use Rattle.history.specs.Events.{HeldCommand, QueueDeed, Held, Completed, CompletedWrite, QueueFailed, QueueMended, QueueEnded, Deed, InSession, OfQueue, Wrote, Trimmed, Took, WasReset, BlockedSid, Chose, Event, latest, since, every, count, Left, Silent, Dropped}
 
 -- It speaks of this SP.
 abbrev pub on_sp : {A : Type 0} → Sp → Sp → A → Option A
@@ -285,7 +287,7 @@ byte_in_view past number place =
     else byte_in_force past place
 
 -- Media: a sector holds what the latest act that moved data over it wrote there, or zeros where an act
--- since erased it (Opal SSC 2.01, sections 5.1.2 and 5.1.3; that the bytes are zeros is this
+-- since trimmed it or erased it (Opal SSC 2.01, sections 5.1.2 and 5.1.3; that the bytes are zeros is this
 -- project's).
 
 abbrev pub part_of : ℕ → ℕ → List ℕ → Option (List ℕ)
@@ -296,9 +298,14 @@ part_of place lba bytes =
 abbrev pub erasing : ℕ → SessionDeed → Option (List ℕ)
 erasing place deed = if is_erased (erased_by deed) place then Some zeros else None
 
+-- A trimmed sector is zeros (ACS-3, IDENTIFY DEVICE word 69, bit 5).
+abbrev pub trimming : ℕ → List Extent → Option (List ℕ)
+trimming place extents = if list_any (has_sector place) extents then Some zeros else None
+
 abbrev pub writing : ℕ → Deed → Option (List ℕ)
 writing place (OfQueue (CompletedWrite tag lba bytes)) = part_of place lba bytes
 writing place (Wrote lba bytes) = part_of place lba bytes
+writing place (Trimmed extents) = trimming place extents
 writing place (InSession deed response) = erasing place deed
 writing place _ = None
 

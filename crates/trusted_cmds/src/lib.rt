@@ -28,4 +28,4 @@ pub use reset::{
     RESET_COM_ID, RESET_PROTOCOL, is_certificate_data, is_programmatic_reset, is_protocol_list,
 };
 pub use spelling::to_fis;
-pub use trim::{Extent, extents_in};
+pub use trim::{Extent, MOST_TRIM_BLOCKS, extents_in};

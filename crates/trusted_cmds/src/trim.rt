@@ -16,7 +16,7 @@ pub struct Extent {
 }
 
 /// How many blocks of entries a command brings at most.
-const MOST_TRIM_BLOCKS: u16 = 8;
+pub const MOST_TRIM_BLOCKS: u16 = 8;
 
 /// How many bytes an entry has.
 const ENTRY_SIZE: usize = 8;
