@@ -28,7 +28,7 @@ use Rattle.tcg_tokens.specs.Reading.{reading as message_in}
 use Rattle.shadow_mbr.specs.Stored.{StoredSectors, sector_size, sector_at, zeros}
 use Rattle.transactions.specs.Sights.{look_up, committed_sight}
 use Rattle.trusted_cmds.specs.declared.command.Command.{Command}
-use Rattle.trusted_cmds.specs.declared.command.Command.TheVariants.{ReadQueued, WriteQueued, ReadDma, WriteDma, Send, Receive, Identify, ReadLog10, Flush, SetFeatures, ReadLog, ReadPio, WritePio, Verify, Control}
+use Rattle.trusted_cmds.specs.declared.command.Command.TheVariants.{ReadQueued, WriteQueued, ReadDma, WriteDma, Send, Receive, Identify, ReadLog10, Flush, SetFeatures, ReadLog, ReadPio, WritePio, Verify, Trim, Control}
 use Rattle.trusted_cmds.specs.Commands.{is_programmatic_reset, is_protocol_list, is_certificate_data, reset_protocol}
 use Rattle.trusted_cmds.specs.BlockSid.{is_block_sid, block_asked}
 use Rattle.trusted_cmds.specs.declared.block.SidBlock.{SidBlock}
@@ -151,6 +151,7 @@ protocols-keeps d o past payload (WriteDma lba count) is k = absurd (no-list is)
 protocols-keeps d o past payload (ReadPio lba count) is k = absurd (no-list is)
 protocols-keeps d o past payload (WritePio lba count) is k = absurd (no-list is)
 protocols-keeps d o past payload (Verify lba count) is k = absurd (no-list is)
+protocols-keeps d o past payload (Trim blocks) is k = absurd (no-list is)
 protocols-keeps d o past payload (Control control) is k = absurd (no-list is)
 
 pub protocols-data : (f : Facts) (protocol com_id blocks : ℕ) (dma : Bool)
@@ -189,6 +190,7 @@ certificates-keeps d o past payload command p is k = by_command command (certifi
     by_command (ReadPio lba count) g = absurd (no-list g)
     by_command (WritePio lba count) g = absurd (no-list g)
     by_command (Verify lba count) g = absurd (no-list g)
+    by_command (Trim blocks) g = absurd (no-list g)
     by_command (Control control) g = absurd (no-list g)
 
 -- what is told where the list of protocols is not asked for, nor the stack of a ComID
@@ -327,6 +329,7 @@ asked-succeeds f payload (WriteDma lba count) = (refl, refl)
 asked-succeeds f payload (ReadPio lba count) = (refl, refl)
 asked-succeeds f payload (WritePio lba count) = (refl, refl)
 asked-succeeds f payload (Verify lba count) = (refl, refl)
+asked-succeeds f payload (Trim blocks) = (refl, refl)
 asked-succeeds f payload (Control control) = (refl, refl)
 
 took-succeeds : (com_id : ℕ) (b : Bool) → Succeeds (if b then did (Took com_id) else did Nothing)
@@ -356,6 +359,7 @@ executed-succeeds f payload (WriteDma lba count) can = absurd can
 executed-succeeds f payload (ReadPio lba count) can = absurd can
 executed-succeeds f payload (WritePio lba count) can = absurd can
 executed-succeeds f payload (Verify lba count) can = absurd can
+executed-succeeds f payload (Trim blocks) can = (refl, refl)
 executed-succeeds f payload (Control control) can = (refl, refl)
 
 -- the fields of an answer
@@ -450,6 +454,7 @@ reset-no-data f (WriteDma lba count) is = absurd cc
 reset-no-data f (ReadPio lba count) is = absurd cc
 reset-no-data f (WritePio lba count) is = absurd cc
 reset-no-data f (Verify lba count) is = absurd cc
+reset-no-data f (Trim blocks) is = absurd cc
 reset-no-data f (Control control) is = absurd cc
 
 pub restarts-done : (f : Facts) (h : RegH2d) (e : DriveState) (o : Origin) (past : List Event) (payload : List ℕ) (command : Command) (made : Decision) (a : Accepted)
@@ -478,6 +483,7 @@ block-no-data f profile (WriteDma lba count) is = absurd cc
 block-no-data f profile (ReadPio lba count) is = absurd cc
 block-no-data f profile (WritePio lba count) is = absurd cc
 block-no-data f profile (Verify lba count) is = absurd cc
+block-no-data f profile (Trim blocks) is = absurd cc
 block-no-data f profile (Control control) is = absurd cc
 
 pub blocks-done : (f : Facts) (h : RegH2d) (e : DriveState) (o : Origin) (past : List Event) (payload : List ℕ) (profile : Profile) (command : Command) (made : Decision) (a : Accepted)

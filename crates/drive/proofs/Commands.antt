@@ -9,7 +9,7 @@ use Rattle.fis.specs.declared.h2d.RegH2d.{RegH2d}
 use Rattle.locking.specs.declared.range.Op.{Op}
 use Rattle.locking.specs.declared.range.Op.TheVariants.{Read, Write}
 use Rattle.trusted_cmds.specs.declared.command.Command.{Command}
-use Rattle.trusted_cmds.specs.declared.command.Command.TheVariants.{ReadQueued, WriteQueued, ReadDma, WriteDma, Send, Receive, Identify, ReadLog10, Flush, SetFeatures, ReadLog, ReadPio, WritePio, Verify, Control}
+use Rattle.trusted_cmds.specs.declared.command.Command.TheVariants.{ReadQueued, WriteQueued, ReadDma, WriteDma, Send, Receive, Identify, ReadLog10, Flush, SetFeatures, ReadLog, ReadPio, WritePio, Verify, Trim, Control}
 use Rattle.trusted_cmds.specs.declared.command.CommandError.{CommandError}
 use Rattle.trusted_cmds.specs.Commands.{is_queued}
 use Rattle.trusted_cmds.specs.BlockSid.{is_block_sid, block_asked, is_blocked}
@@ -73,6 +73,7 @@ block_made f payload (WriteDma lba count) is kept free = cc
 block_made f payload (ReadPio lba count) is kept free = cc
 block_made f payload (WritePio lba count) is kept free = cc
 block_made f payload (Verify lba count) is kept free = cc
+block_made f payload (Trim blocks) is kept free = cc
 block_made f payload (Control control) is kept free = cc
 
 pub block_refused : (f : Facts) (payload : List ℕ) (c : Command) → is_block_sid f.config.profile c ≡ true → resets f.rows c ≡ false → true ≡ (has_owner f.rows || is_blocked f.beside.block)
@@ -94,6 +95,7 @@ block_refused f payload (WriteDma lba count) is kept free = cc
 block_refused f payload (ReadPio lba count) is kept free = cc
 block_refused f payload (WritePio lba count) is kept free = cc
 block_refused f payload (Verify lba count) is kept free = cc
+block_refused f payload (Trim blocks) is kept free = cc
 block_refused f payload (Control control) is kept free = cc
 
 -- what is for the stack of a ComID
@@ -117,6 +119,7 @@ stack_asked f payload (WriteDma lba count) is other kept = cc
 stack_asked f payload (ReadPio lba count) is other kept = cc
 stack_asked f payload (WritePio lba count) is other kept = cc
 stack_asked f payload (Verify lba count) is other kept = cc
+stack_asked f payload (Trim blocks) is other kept = cc
 stack_asked f payload (Control control) is other kept = cc
 
 -- the order of the rules

@@ -22,7 +22,7 @@ use Rattle.sessions.specs.Deeds.{Begun, erased_by}
 use Rattle.history.specs.Decisions.{completed}
 use Rattle.history.specs.Tcg.{sent, sent_by, broken_of, unframed, unframed_in, framed, to_session, to_manager, in_session, item_in, breaks_off, broken_off, is_discarded, manager_event, answers, is_manager}
 use Rattle.history.specs.Opening.{Origin}
-use Rattle.history.specs.Events.{HeldCommand, Held as HeldDeed, QueueFailed, QueueMended, QueueEnded, Deed, Nothing, OfQueue, Wrote, Took, BlockedSid, Chose, WasReset, InSession, Event, did, or_else, latest, ignores}
+use Rattle.history.specs.Events.{HeldCommand, Held as HeldDeed, QueueFailed, QueueMended, QueueEnded, Deed, Nothing, OfQueue, Wrote, Trimmed, Took, BlockedSid, Chose, WasReset, InSession, Event, did, or_else, latest, ignores}
 use Rattle.history.specs.Readers.{holding, in_force, failing, failure, writing, settings_then}
 use Rattle.history.specs.Facts.{Facts, facts, session_named}
 use Rattle.history.specs.KeptStore.{ReadsStore}
@@ -221,6 +221,7 @@ sends-of-tper Nothing h = of_tper (λ tag. refl) refl (λ s. refl)
 sends-of-tper (InSession deed response) h = of_tper (λ tag. refl) refl (λ s. refl)
 sends-of-tper (OfQueue deed) h = absurd h
 sends-of-tper (Wrote lba bytes) h = absurd h
+sends-of-tper (Trimmed extents) h = absurd h
 sends-of-tper (Took com_id) h = absurd h
 sends-of-tper (BlockedSid block) h = absurd h
 sends-of-tper (Chose feature) h = absurd h
@@ -231,6 +232,7 @@ sends-erase Nothing s before h = refl
 sends-erase (InSession deed response) s before h = erase-here (is_erased (erased_by deed) s) before
 sends-erase (OfQueue deed) s before h = absurd h
 sends-erase (Wrote lba bytes) s before h = absurd h
+sends-erase (Trimmed extents) s before h = absurd h
 sends-erase (Took com_id) s before h = absurd h
 sends-erase (BlockedSid block) s before h = absurd h
 sends-erase (Chose feature) s before h = absurd h

@@ -4,7 +4,7 @@ use Rattle.std.specs.Prelude.{is_some, unwrap_or, Result, Ok, Err, if◌then◌e
 use Rattle.fis.specs.declared.any.Fis.{Fis}
 use Rattle.hba_regs.specs.Registers.{Regs, without}
 use Rattle.trusted_cmds.specs.declared.command.Command.{Command}
-use Rattle.trusted_cmds.specs.declared.command.Command.TheVariants.{ReadQueued, WriteQueued, ReadDma, WriteDma, Send, Receive, Identify, ReadLog10, Flush, SetFeatures, ReadLog, ReadPio, WritePio, Verify, Control}
+use Rattle.trusted_cmds.specs.declared.command.Command.TheVariants.{ReadQueued, WriteQueued, ReadDma, WriteDma, Send, Receive, Identify, ReadLog10, Flush, SetFeatures, ReadLog, ReadPio, WritePio, Verify, Trim, Control}
 use Rattle.trusted_cmds.specs.declared.control.Control.TheVariants.{SetMultiple, Idle, CheckPowerMode, Diagnose}
 use Rattle.trusted_cmds.specs.declared.command.CommandError.{CommandError}
 use Rattle.history.specs.Answers.{errored, ready, answer_fis, served_fises, fises_read, fises_of, completed_fises, setup_fis, moved_fis}
@@ -39,6 +39,7 @@ served_active tag regs (ReadLog page false) = refl
 served_active tag regs (ReadPio lba count) = refl
 served_active tag regs (WritePio lba count) = refl
 served_active tag regs (Verify lba count) = refl
+served_active tag regs (Trim blocks) = refl
 served_active tag regs (Control SetMultiple) = refl
 served_active tag regs (Control Idle) = refl
 served_active tag regs (Control CheckPowerMode) = refl
@@ -119,6 +120,7 @@ by_command missed tag regs (ReadLog page dma) = inl (served_same missed tag [] r
 by_command missed tag regs (ReadPio lba count) = inl (served_same missed tag [] regs refl)
 by_command missed tag regs (WritePio lba count) = inl (served_same missed tag [] regs refl)
 by_command missed tag regs (Verify lba count) = inl (served_same missed tag [] regs refl)
+by_command missed tag regs (Trim blocks) = inl (served_same missed tag [] regs refl)
 by_command missed tag regs (Control control) = inl (served_same missed tag [] regs refl)
 
 pub completed_told : (missed : Option Miss) (tag : ℕ) (regs : Registers) (held : Option HeldCommand)

@@ -9,7 +9,7 @@ use Rattle.hba_regs.specs.declared.register.Register.{Register}
 use Rattle.hba_regs.specs.declared.register.Register.TheVariants as at
 use Rattle.hba_regs.specs.Registers.{Regs, has_bits, start_bit, run_if, without}
 use Rattle.trusted_cmds.specs.declared.command.Command.{Command}
-use Rattle.trusted_cmds.specs.declared.command.Command.TheVariants.{ReadQueued, WriteQueued, ReadDma, WriteDma, Send, Receive, Identify, ReadLog10, Flush, SetFeatures, ReadLog, ReadPio, WritePio, Verify, Control}
+use Rattle.trusted_cmds.specs.declared.command.Command.TheVariants.{ReadQueued, WriteQueued, ReadDma, WriteDma, Send, Receive, Identify, ReadLog10, Flush, SetFeatures, ReadLog, ReadPio, WritePio, Verify, Trim, Control}
 use Rattle.trusted_cmds.specs.declared.control.Control.TheVariants.{SetMultiple, Idle, CheckPowerMode, Diagnose}
 use Rattle.trusted_cmds.specs.declared.command.CommandError.{CommandError}
 use Rattle.history.specs.Answers.{errored, ready, answer_fis, is_holding, served_fises, fises_read, fises_of, completed_fises}
@@ -131,6 +131,7 @@ served_words n (ReadLog page false) = tt
 served_words n (ReadPio lba count) = tt
 served_words n (WritePio lba count) = tt
 served_words n (Verify lba count) = tt
+served_words n (Trim blocks) = tt
 served_words n (Control SetMultiple) = tt
 served_words n (Control Idle) = tt
 served_words n (Control CheckPowerMode) = tt
@@ -165,6 +166,7 @@ command_words tag (ReadLog page dma) t = tt
 command_words tag (ReadPio lba count) t = tt
 command_words tag (WritePio lba count) t = tt
 command_words tag (Verify lba count) t = tt
+command_words tag (Trim blocks) t = tt
 command_words tag (Control control) t = tt
 
 completed_words : (tag : ℕ) (held : Option HeldCommand) → tag < 32 → AreWords (completed_fises tag held)

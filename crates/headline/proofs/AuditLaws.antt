@@ -201,6 +201,7 @@ completion_denies u bytes (commands.ReadLog page dma) = refl
 completion_denies u bytes (commands.ReadPio lba count) = refl
 completion_denies u bytes (commands.WritePio lba count) = refl
 completion_denies u bytes (commands.Verify lba count) = refl
+completion_denies u bytes (commands.Trim blocks) = refl
 completion_denies u bytes (commands.Control control) = refl
 
 none_completed : (u : ℕ) (bytes : List ℕ) (h : Option HeldCommand) → (completed u bytes h).denied ≡ None

@@ -9,7 +9,7 @@ use Rattle.locking.specs.declared.range.Op.TheVariants.{Read, Write}
 use Rattle.locking.specs.declared.ranges.Verdict.{Verdict}
 use Rattle.locking.specs.declared.ranges.Verdict.TheVariants.{Serve, Shadow, Denied}
 use Rattle.trusted_cmds.specs.declared.command.Command.{Command}
-use Rattle.trusted_cmds.specs.declared.command.Command.TheVariants.{ReadQueued, WriteQueued, ReadDma, WriteDma, Send, Receive, Identify, ReadLog10, Flush, SetFeatures, ReadLog, ReadPio, WritePio, Verify, Control}
+use Rattle.trusted_cmds.specs.declared.command.Command.TheVariants.{ReadQueued, WriteQueued, ReadDma, WriteDma, Send, Receive, Identify, ReadLog10, Flush, SetFeatures, ReadLog, ReadPio, WritePio, Verify, Trim, Control}
 use Rattle.trusted_cmds.specs.Commands.{tag_with}
 use Rattle.history.specs.Answers.{read_by, held_data, data_read_of}
 use Rattle.history.specs.Events.{Deed, Nothing, Wrote, Event}
@@ -115,6 +115,7 @@ queued_taken items f h bytes (ReadLog page dma) tag queued free = absurd cc
 queued_taken items f h bytes (ReadPio lba count) tag queued free = absurd cc
 queued_taken items f h bytes (WritePio lba count) tag queued free = absurd cc
 queued_taken items f h bytes (Verify lba count) tag queued free = absurd cc
+queued_taken items f h bytes (Trim blocks) tag queued free = absurd cc
 queued_taken items f h bytes (Control control) tag queued free = absurd cc
 
 -- A transfer that is executed whole.
@@ -164,4 +165,5 @@ executed_is items f payload (ReadLog page dma) tag x unqueued_is is = absurd cc
 executed_is items f payload (ReadPio lba count) tag x unqueued_is is = absurd cc
 executed_is items f payload (WritePio lba count) tag x unqueued_is is = absurd cc
 executed_is items f payload (Verify lba count) tag x unqueued_is is = absurd cc
+executed_is items f payload (Trim blocks) tag x unqueued_is is = absurd cc
 executed_is items f payload (Control control) tag x unqueued_is is = absurd cc

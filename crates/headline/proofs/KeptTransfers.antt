@@ -246,6 +246,7 @@ known_unqueued items f h bytes command tag e = by_command command e
     by_command (commands.ReadPio lba count) e = refl
     by_command (commands.WritePio lba count) e = refl
     by_command (commands.Verify lba count) e = refl
+    by_command (commands.Trim blocks) e = refl
     by_command (commands.Control control) e = refl
 
 pub unqueued_event : (items : Items) (still : IsForPorts items) (o : Origin) (ms : List Moment) (u : ℕ) (put : Put) → u < 32 → Kept ms

@@ -188,6 +188,7 @@ executed_lands items f past content given (commands.ReadLog page dma) unqueued_i
 executed_lands items f past content given (commands.ReadPio lba count) unqueued_is long = tt
 executed_lands items f past content given (commands.WritePio lba count) unqueued_is long = tt
 executed_lands items f past content given (commands.Verify lba count) unqueued_is long = tt
+executed_lands items f past content given (commands.Trim blocks) unqueued_is long = tt
 executed_lands items f past content given (commands.Control control) unqueued_is long = tt
 
 -- a completion
@@ -212,6 +213,7 @@ completed_lands u past content a (commands.ReadLog page dma) queued long = tt
 completed_lands u past content a (commands.ReadPio lba count) queued long = tt
 completed_lands u past content a (commands.WritePio lba count) queued long = tt
 completed_lands u past content a (commands.Verify lba count) queued long = tt
+completed_lands u past content a (commands.Trim blocks) queued long = tt
 completed_lands u past content a (commands.Control control) queued long = tt
 
 split : (items : Items) (o : Origin) (list : List Step) (u : ℕ) → LandedAt items o list u

@@ -193,6 +193,7 @@ executed_unmoved items f own content given (commands.ReadLog page dma) unqueued_
 executed_unmoved items f own content given (commands.ReadPio lba count) unqueued_is k = tt
 executed_unmoved items f own content given (commands.WritePio lba count) unqueued_is k = tt
 executed_unmoved items f own content given (commands.Verify lba count) unqueued_is k = tt
+executed_unmoved items f own content given (commands.Trim blocks) unqueued_is k = tt
 executed_unmoved items f own content given (commands.Control control) unqueued_is k = tt
 
 -- A completion.
@@ -215,6 +216,7 @@ completed_unmoved u own content bytes (commands.ReadLog page dma) queued k = tt
 completed_unmoved u own content bytes (commands.ReadPio lba count) queued k = tt
 completed_unmoved u own content bytes (commands.WritePio lba count) queued k = tt
 completed_unmoved u own content bytes (commands.Verify lba count) queued k = tt
+completed_unmoved u own content bytes (commands.Trim blocks) queued k = tt
 completed_unmoved u own content bytes (commands.Control control) queued k = tt
 
 split : (items : Items) (o : Origin) (list : List Step) (u : ℕ) → UnmovedAt items o list u

@@ -54,7 +54,7 @@ use Rattle.tcg_calls.specs.Named.{values_of}
 use Rattle.sp_cells.specs.Flat.{LookUp, sp_eq}
 use Rattle.tcg_calls.specs.declared.call_shapes.ask.Ask.{Ask}
 use Rattle.tcg_calls.specs.declared.call_shapes.ask.Ask.TheVariants.{GetCells, GetBytes, SetCells, SetBytes, Authenticate, Activate, Revert, GenKey, RevertSp, Next, GetAcl, Other, Random}
-use Rattle.history.specs.Events.{Deed, Nothing, InSession, OfQueue, Wrote, Took, BlockedSid, Chose, WasReset, Event}
+use Rattle.history.specs.Events.{Deed, Nothing, InSession, OfQueue, Wrote, Trimmed, Took, BlockedSid, Chose, WasReset, Event}
 use Rattle.sp_tables.specs.Looks.{RowLook}
 use Rattle.history.specs.Changes.{with_tries}
 use Rattle.history.specs.Readers.{view, tries, rows_within, rows_after, living, lives_by, restores, session_on, open_on, is_of, in_force, beside}
@@ -483,6 +483,7 @@ living-on sp (WasReset kind) s h = cc
 living-on sp Nothing s h = cc
 living-on sp (OfQueue d) s h = cc
 living-on sp (Wrote lba written) s h = cc
+living-on sp (Trimmed extents) s h = cc
 living-on sp (Took c) s h = cc
 living-on sp (BlockedSid block) s h = cc
 living-on sp (Chose feature) s h = cc

@@ -21,7 +21,7 @@ use Rattle.tcg_tokens.specs.Message.{Message, call, reply, end_session, begin, e
 use Rattle.tcg_tokens.specs.Reading.{reading as message_in}
 use Rattle.tcg_tokens.specs.Tree.{Tree, Trees, bytes}
 use Rattle.trusted_cmds.specs.declared.command.Command.{Command}
-use Rattle.trusted_cmds.specs.declared.command.Command.TheVariants.{ReadQueued, WriteQueued, ReadDma, WriteDma, Send, Receive, Identify, ReadLog10, Flush, SetFeatures, ReadLog, ReadPio, WritePio, Verify, Control}
+use Rattle.trusted_cmds.specs.declared.command.Command.TheVariants.{ReadQueued, WriteQueued, ReadDma, WriteDma, Send, Receive, Identify, ReadLog10, Flush, SetFeatures, ReadLog, ReadPio, WritePio, Verify, Trim, Control}
 use Rattle.trusted_cmds.specs.declared.command.CommandError.{CommandError}
 use Rattle.locking.specs.declared.ranges.Verdict.{Verdict}
 use Rattle.locking.specs.declared.ranges.Verdict.TheVariants.{Serve, Shadow, Denied}
@@ -452,6 +452,7 @@ queued-is f act why (ReadLog page dma) tag looked free h = absurd (nothing h)
 queued-is f act why (ReadPio l n) tag looked free h = absurd (nothing h)
 queued-is f act why (WritePio l n) tag looked free h = absurd (nothing h)
 queued-is f act why (Verify l n) tag looked free h = absurd (nothing h)
+queued-is f act why (Trim blocks) tag looked free h = absurd (nothing h)
 queued-is f act why (Control control) tag looked free h = absurd (nothing h)
 
 received-none : (com_id blocks : ℕ) (x : Option (List ℕ)) → (received com_id blocks x).denied ≡ None

@@ -10,13 +10,13 @@ use Rattle.locking.specs.declared.range.Op.TheVariants.{Read, Write}
 use Rattle.trusted_cmds.specs.Commands.{is_queued, tag_of, sector_size}
 use Rattle.history.specs.Opening.{Origin}
 use Rattle.trusted_cmds.specs.declared.command.Command.{Command}
-use Rattle.trusted_cmds.specs.declared.command.Command.TheVariants.{ReadQueued, WriteQueued, ReadDma, WriteDma, Send, Receive, Identify, ReadLog10, Flush, SetFeatures, ReadLog, ReadPio, WritePio, Verify, Control}
+use Rattle.trusted_cmds.specs.declared.command.Command.TheVariants.{ReadQueued, WriteQueued, ReadDma, WriteDma, Send, Receive, Identify, ReadLog10, Flush, SetFeatures, ReadLog, ReadPio, WritePio, Verify, Trim, Control}
 use Rattle.trusted_cmds.specs.declared.command.CommandError.{CommandError}
 use Rattle.trusted_cmds.specs.Commands.{fault_of, read_unless}
 use Rattle.locking.specs.declared.ranges.Verdict.{Verdict}
 use Rattle.locking.specs.declared.ranges.Verdict.TheVariants.{Serve, Shadow, Denied}
 use Rattle.device_data.specs.declared.log_page.Failure.{Failure}
-use Rattle.history.specs.Events.{HeldCommand, Held, Completed, CompletedWrite, QueueFailed, QueueMended, QueueEnded, Deed, Nothing, InSession, OfQueue, Wrote, Took, BlockedSid, Chose, WasReset, Event, did, Silent}
+use Rattle.history.specs.Events.{HeldCommand, Held, Completed, CompletedWrite, QueueFailed, QueueMended, QueueEnded, Deed, Nothing, InSession, OfQueue, Wrote, Trimmed, Took, BlockedSid, Chose, WasReset, Event, did, Silent}
 use Rattle.history.specs.Readers.{holding, held}
 use Rattle.history.specs.Facts.{Facts, facts}
 use Rattle.history.specs.Decisions.{not_found, aborted, fails, refuses, fails_queue, on_drive, ranges_in_force, verdict_on, queued_by, admitted, unqueued_by, is_trusted, is_session_com_id, discovery_com_id, received, while_failed, is_busy, completed_by, completed, resets, unqueued_of, known_of, commanded_of, is_received, unreceived, asks_stack, receive_other}
@@ -63,6 +63,7 @@ holds-is tag (OfQueue QueueEnded) h g = cc
 holds-is tag Nothing h g = cc
 holds-is tag (InSession d r) h g = cc
 holds-is tag (Wrote lba bytes) h g = cc
+holds-is tag (Trimmed extents) h g = cc
 holds-is tag (Took c) h g = cc
 holds-is tag (BlockedSid block) h g = cc
 holds-is tag (Chose feature) h g = cc
@@ -136,6 +137,7 @@ admitted-is items f act tag t h (ReadLog page dma) looked false g = absurd (not-
 admitted-is items f act tag t h (ReadPio l n) looked false g = absurd (not-held refl g)
 admitted-is items f act tag t h (WritePio l n) looked false g = absurd (not-held refl g)
 admitted-is items f act tag t h (Verify l n) looked false g = absurd (not-held refl g)
+admitted-is items f act tag t h (Trim blocks) looked false g = absurd (not-held refl g)
 admitted-is items f act tag t h (Control control) looked false g = absurd (not-held refl g)
 
 while_failed-none : (r : Result (Command × Option ℕ) CommandError) → is_holding (while_failed r).deed ≡ false

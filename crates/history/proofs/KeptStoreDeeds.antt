@@ -33,7 +33,7 @@ use Rattle.sessions.specs.Deeds.{Setting, cells_set, bytes_set, Sets, Restores, 
 use Rattle.sessions.specs.Made.{part_with, StoresChange, closed_if, closed_where, with_count, CanSet}
 use Rattle.history.specs.Opening.{Origin, factory_origin}
 use Rattle.history.specs.Changes.{byte_in, reset_rows}
-use Rattle.history.specs.Events.{Response, Deed, Nothing, InSession, OfQueue, Wrote, Took, BlockedSid, Chose, WasReset, Event}
+use Rattle.history.specs.Events.{Response, Deed, Nothing, InSession, OfQueue, Wrote, Trimmed, Took, BlockedSid, Chose, WasReset, Event}
 use Rattle.history.specs.Readers.{begins, turns, changes_on, brought, changes, factory_rows, open_on, rows_after, tries, one_more, same_row}
 use Rattle.history.specs.KeptStore.{HasKnownRows, KeepsPart, KeepsBytes, KeepsStore, StoresBy, StoreLaw}
 use Rattle.history.proofs.Steps.{rows-by, turned}
@@ -362,6 +362,7 @@ deed-kept : (s t : Stored) (o : Origin) (past : List Event) (x : Option ℕ) (w 
 deed-kept s t o past x w Nothing h by = keep-as s t o _ by (left s o (doing x w Nothing) past h (λ sp. record { turn = refl; start = refl; change = refl; bring = refl }) (λ sp u. refl))
 deed-kept s t o past x w (OfQueue d) h by = keep-as s t o _ by (left s o (doing x w (OfQueue d)) past h (λ sp. record { turn = refl; start = refl; change = refl; bring = refl }) (λ sp u. refl))
 deed-kept s t o past x w (Wrote lba bytes) h by = keep-as s t o _ by (left s o (doing x w (Wrote lba bytes)) past h (λ sp. record { turn = refl; start = refl; change = refl; bring = refl }) (λ sp u. refl))
+deed-kept s t o past x w (Trimmed extents) h by = keep-as s t o _ by (left s o (doing x w (Trimmed extents)) past h (λ sp. record { turn = refl; start = refl; change = refl; bring = refl }) (λ sp u. refl))
 deed-kept s t o past x w (Took com_id) h by = keep-as s t o _ by (left s o (doing x w (Took com_id)) past h (λ sp. record { turn = refl; start = refl; change = refl; bring = refl }) (λ sp u. refl))
 deed-kept s t o past x w (BlockedSid block) h by = keep-as s t o _ by (left s o (doing x w (BlockedSid block)) past h (λ sp. record { turn = refl; start = refl; change = refl; bring = refl }) (λ sp u. refl))
 deed-kept s t o past x w (Chose feature) h by = keep-as s t o _ by (left s o (doing x w (Chose feature)) past h (λ sp. record { turn = refl; start = refl; change = refl; bring = refl }) (λ sp u. refl))

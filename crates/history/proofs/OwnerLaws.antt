@@ -23,7 +23,7 @@ use Rattle.transactions.specs.Resets.{is_range, locks_seen}
 use Rattle.sessions.specs.Deeds.{cells_set, bytes_set, Change, Sets, Restores, Resets, Begun, SessionDeed, Unchanged, Started, Tried, Changed, Began, Committed, Aborted, Ended, Activated, Reverted, Erased, Drew, HostTold, StackReset, StackTold}
 use Rattle.history.specs.Changes.{reset_rows, apply, apply_all}
 use Rattle.sessions.specs.Starts.{is_in_use}
-use Rattle.history.specs.Events.{Response, Deed, Nothing, InSession, OfQueue, Wrote, Took, BlockedSid, Chose, WasReset, Event}
+use Rattle.history.specs.Events.{Response, Deed, Nothing, InSession, OfQueue, Wrote, Trimmed, Took, BlockedSid, Chose, WasReset, Event}
 use Rattle.history.specs.Readers.{restores, living, session_on, open_on, is_of, in_force, turns, begins, changes_on, own_changes, if_open, open_changes, only_on, unless_any_open, brought, changes, factory_rows}
 use Rattle.history.specs.History.{Act, event, log}
 use Rattle.history.specs.Deeds.{IsNew, is_set_on_each, is_set_on_opal, is_set_in_admin, is_of_row, Begins, Changes, IsOutside, IsRevert, IsRevertSp, CanDo, OwnerLaw, LifeLaw, ActivateLaw, RevertLaw}
@@ -77,6 +77,7 @@ began-is sp (InSession (StackReset com_id ends) r) n h = by_sp (ends sp) h
 began-is sp Nothing n h = cc
 began-is sp (OfQueue d) n h = cc
 began-is sp (Wrote lba bytes) n h = cc
+began-is sp (Trimmed extents) n h = cc
 began-is sp (Took c) n h = cc
 began-is sp (BlockedSid block) n h = cc
 began-is sp (Chose feature) n h = cc
@@ -122,6 +123,7 @@ start-is sp (InSession (StackReset com_id ends) r) x h g = by_sp (ends sp) h g
 start-is sp Nothing x h g = cc
 start-is sp (OfQueue d) x h g = cc
 start-is sp (Wrote lba bytes) x h g = cc
+start-is sp (Trimmed extents) x h g = cc
 start-is sp (Took c) x h g = cc
 start-is sp (BlockedSid block) x h g = cc
 start-is sp (Chose feature) x h g = cc
@@ -163,6 +165,7 @@ begun-is sp (InSession (StackReset com_id ends) r) s h = by_sp (ends sp) h
 begun-is sp Nothing s h = cc
 begun-is sp (OfQueue d) s h = cc
 begun-is sp (Wrote lba bytes) s h = cc
+begun-is sp (Trimmed extents) s h = cc
 begun-is sp (Took c) s h = cc
 begun-is sp (BlockedSid block) s h = cc
 begun-is sp (Chose feature) s h = cc
@@ -213,6 +216,7 @@ changed-is sp (InSession (StackReset com_id ends) r) c h = cc
 changed-is sp Nothing c h = cc
 changed-is sp (OfQueue d) c h = cc
 changed-is sp (Wrote lba bytes) c h = cc
+changed-is sp (Trimmed extents) c h = cc
 changed-is sp (Took x) c h = cc
 changed-is sp (BlockedSid block) c h = cc
 changed-is sp (Chose feature) c h = cc
@@ -364,6 +368,7 @@ brought-spare o es (InSession (Reverted s w) r) can own h = cc
 brought-spare o es Nothing can own h = refl
 brought-spare o es (OfQueue d) can own h = refl
 brought-spare o es (Wrote lba bytes) can own h = refl
+brought-spare o es (Trimmed extents) can own h = refl
 brought-spare o es (Took x) can own h = refl
 brought-spare o es (BlockedSid block) can own h = refl
 brought-spare o es (Chose feature) can own h = refl
@@ -390,6 +395,7 @@ activation-is (InSession (StackReset com_id ends) r) h = cc
 activation-is Nothing h = cc
 activation-is (OfQueue d) h = cc
 activation-is (Wrote lba bytes) h = cc
+activation-is (Trimmed extents) h = cc
 activation-is (Took x) h = cc
 activation-is (BlockedSid block) h = cc
 activation-is (Chose feature) h = cc

@@ -19,7 +19,7 @@ use Rattle.locking.specs.declared.ranges.Verdict.TheVariants.{Serve, Shadow, Den
 use Rattle.sessions.specs.Deeds.{Begun, StackTold}
 use Rattle.trusted_cmds.specs.BlockSid.{is_block_sid, block_asked, is_blocked}
 use Rattle.device_data.specs.Discovery.{has_owner}
-use Rattle.history.specs.Events.{did, HeldCommand, Deed, Nothing, InSession, Left, Silent, Wrote, Event, or_else, OfQueue, Took, BlockedSid, Chose, WasReset, latest, ignores, Dropped}
+use Rattle.history.specs.Events.{did, HeldCommand, Deed, Nothing, InSession, Left, Silent, Wrote, Trimmed, Event, or_else, OfQueue, Took, BlockedSid, Chose, WasReset, latest, ignores, Dropped}
 use Rattle.history.specs.Facts.{Facts, facts, session_named}
 use Rattle.history.specs.Decisions.{aborted, not_found, fails, refuses, fails_queue, on_drive, verdict_on, queued_by, queued_transfer, admitted, unqueued_by, unqueued_transfer, is_trusted, is_session_com_id, discovery_com_id, received, while_failed, is_busy, completed_by, completed, resets, is_received, unreceived, asks_stack}
 use Rattle.history.specs.Tcg.{answers, to_manager, in_session, item_in, breaks_off, broken_off, is_discarded, manager_event, is_manager, to_session, framed, sent, unqueued, known, commanded, command_read, blocks_sid, unsent, is_sent, is_free_for, unframed, unframed_in, broken_of, sent_by, stack_reset, stack_kept, stack_sent}
@@ -169,6 +169,7 @@ left-none com_id (WasReset kind) past other on h = refl
 left-none com_id Nothing past other on h = h
 left-none com_id (OfQueue d) past other on h = h
 left-none com_id (Wrote lba bytes) past other on h = h
+left-none com_id (Trimmed extents) past other on h = h
 
 pub response_law : ResponseLaw
 response_law o [] com_id other = refl

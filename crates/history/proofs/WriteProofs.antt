@@ -12,7 +12,7 @@ use Rattle.trusted_cmds.specs.declared.command.CommandError.{CommandError}
 use Rattle.locking.specs.declared.ranges.Verdict.{Verdict}
 use Rattle.locking.specs.declared.ranges.Verdict.TheVariants.{Serve, Shadow, Denied}
 use Rattle.device_data.specs.declared.log_page.Failure.{Failure}
-use Rattle.history.specs.Events.{HeldCommand, Deed, Nothing, InSession, OfQueue, Wrote, Took, BlockedSid, Chose, Event, did, WasReset, Silent}
+use Rattle.history.specs.Events.{HeldCommand, Deed, Nothing, InSession, OfQueue, Wrote, Trimmed, Took, BlockedSid, Chose, Event, did, WasReset, Silent}
 use Rattle.history.specs.Facts.{Facts}
 use Rattle.history.specs.Decisions.{not_found, aborted, fails, refuses, fails_queue, on_drive, ranges_in_force, verdict_on, queued_by, admitted, unqueued_by, is_trusted, is_session_com_id, discovery_com_id, received, while_failed, is_busy, completed_by, completed, resets, unqueued_of, known_of, commanded_of, is_received, unreceived, asks_stack, receive_other}
 use Rattle.history.specs.Items.{Items}
@@ -28,6 +28,7 @@ use Rattle.sessions.specs.Deeds.{StackTold}
 
 abbrev is_write : Deed → Bool
 is_write (Wrote lba bytes) = true
+is_write (Trimmed extents) = true
 is_write _ = false
 
 false-true : false ≡ true → ⊥
@@ -50,6 +51,7 @@ quiet-none Nothing h = refl
 quiet-none (InSession deed response) h = refl
 quiet-none (OfQueue deed) h = refl
 quiet-none (Wrote lba bytes) h = cc
+quiet-none (Trimmed extents) h = cc
 quiet-none (Took com_id) h = refl
 quiet-none (BlockedSid block) h = refl
 quiet-none (Chose feature) h = refl

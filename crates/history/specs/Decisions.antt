@@ -122,14 +122,16 @@ denial_by Serve = None
 denial_by Shadow = None
 denial_by (Denied why) = Some why
 
-abbrev pub are_on_drive : Facts → List Extent → Bool
-are_on_drive f extents = list_all (λ (extent : Extent). on_drive f extent.lba extent.count) extents
+abbrev pub are_on_drive : ℕ → List Extent → Bool
+are_on_drive sectors extents =
+    list_all (λ (extent : Extent). nat_le (extent.lba + extent.count) sectors) extents
 
 -- The first of the extents that is denied says why.
-unfoldable pub first_denial : Facts → List Extent → Option Why
-first_denial f [] = None
-first_denial f (extent ∷ extents) =
-    or_else (denial_by (verdict_on f Write extent.lba extent.count)) (first_denial f extents)
+unfoldable pub first_denial : RangeRows → List Extent → Option Why
+first_denial ranges [] = None
+first_denial ranges (extent ∷ extents) =
+    or_else (denial_by (verdict_of ranges Write extent.lba extent.count))
+    (first_denial ranges extents)
 
 abbrev pub trimmed_by : List Extent → Option Why → Event
 trimmed_by extents None = did (Trimmed extents)
@@ -137,8 +139,9 @@ trimmed_by extents (Some why) = fails aborted (Some why) None
 
 abbrev pub trimmed : Facts → List Extent → Event
 trimmed f extents =
-    if are_on_drive f extents
-    then trimmed_by extents (first_denial f extents) else fails not_found None (Some BeyondDrive)
+    if are_on_drive f.config.sectors extents
+    then trimmed_by extents (first_denial (ranges_in_force f) extents)
+    else fails not_found None (Some BeyondDrive)
 
 -- Trusted commands (ACS-3, TRUSTED SEND and TRUSTED RECEIVE; Opal SSC 2.01, section 3.1.1).
 

@@ -26,7 +26,7 @@ use Rattle.sessions.specs.declared.opening.Opening.{Opening}
 use Rattle.sessions.specs.declared.opening.StartVerdict.TheVariants.{Attempted}
 use Rattle.sessions.specs.Starts.{opening_of}
 use Rattle.history.specs.Facts.{Facts, standing}
-use Rattle.history.specs.Decisions.{on_drive, verdict_on, are_on_drive, first_denial}
+use Rattle.history.specs.Decisions.{on_drive, verdict_on, ranges_in_force, are_on_drive, first_denial}
 use Rattle.history.specs.Tcg.{is_manager, is_method_of_manager, start_verdict, judgement_on}
 use Rattle.history.specs.History.{Act, event_by}
 use Rattle.history.specs.MethodLaws.{IsLookedAt, IsSent, IsCall}
@@ -64,8 +64,8 @@ pub record TransferDenied (f : Facts) (act : Act) (why : Why) : Type 0 where
 pub record TrimDenied (f : Facts) (act : Act) (why : Why) : Type 0 where
   pub blocks : ℕ
   pub looked : IsLookedAt f act (Trim blocks) None
-  pub on_drive : are_on_drive f (extents_in looked.payload) ≡ true
-  pub denial : first_denial f (extents_in looked.payload) ≡ Some why
+  pub on_drive : are_on_drive f.config.sectors (extents_in looked.payload) ≡ true
+  pub denial : first_denial (ranges_in_force f) (extents_in looked.payload) ≡ Some why
 
 -- A call of the right shape that its ACEs deny.
 pub record MethodDenied (f : Facts) (act : Act) (why : Why) : Type 0 where

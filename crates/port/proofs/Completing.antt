@@ -8,7 +8,7 @@ use Rattle.fis.specs.declared.any.Fis.{Fis}
 use Rattle.hba_regs.specs.Registers.{Regs}
 use Rattle.slots.specs.Layout.{buffer_size}
 use Rattle.trusted_cmds.specs.declared.command.Command.{Command}
-use Rattle.trusted_cmds.specs.declared.command.Command.TheVariants.{ReadQueued, WriteQueued, ReadDma, WriteDma, Send, Receive, Identify, ReadLog10, Flush, SetFeatures, ReadLog, ReadPio, WritePio, Verify, Control}
+use Rattle.trusted_cmds.specs.declared.command.Command.TheVariants.{ReadQueued, WriteQueued, ReadDma, WriteDma, Send, Receive, Identify, ReadLog10, Flush, SetFeatures, ReadLog, ReadPio, WritePio, Verify, Trim, Control}
 use Rattle.history.specs.Answers.{expected, completed_fises, completed_data}
 use Rattle.history.specs.Decisions.{completed}
 use Rattle.history.specs.Events.{Event, HeldCommand}
@@ -99,6 +99,7 @@ no_line n tag put bytes (Some h) fises content = by_command h.command
     by_command (ReadPio lba count) = refl
     by_command (WritePio lba count) = refl
     by_command (Verify lba count) = refl
+    by_command (Trim blocks) = refl
     by_command (Control control) = refl
 
 -- what the drive holds is what the past holds

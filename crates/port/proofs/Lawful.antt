@@ -49,6 +49,7 @@ is_command_fis (commands.ReadLog page dma) tag = refl
 is_command_fis (commands.ReadPio lba count) tag = refl
 is_command_fis (commands.WritePio lba count) tag = refl
 is_command_fis (commands.Verify lba count) tag = refl
+is_command_fis (commands.Trim blocks) tag = refl
 is_command_fis (commands.Control control) tag = refl
 
 pub issued_moves : (o : Origin) (list : List Step) (tag : ℕ) (put : Put) → IsLawful o list
@@ -78,6 +79,7 @@ brought_small (commands.ReadLog page dma) few = omega arith
 brought_small (commands.ReadPio lba count) few = omega arith
 brought_small (commands.WritePio lba count) few = omega (arith, few)
 brought_small (commands.Verify lba count) few = omega arith
+brought_small (commands.Trim blocks) few = omega arith
 brought_small (commands.Control control) few = omega arith
 
 unqueued_small : (b : Bool) (n : ℕ) → n ≤ buffer_size → (if b then 0 else n) ≤ buffer_size

@@ -13,11 +13,11 @@ use Rattle.locking.specs.declared.ranges.Verdict.{Verdict}
 use Rattle.locking.specs.declared.ranges.Verdict.TheVariants.{Serve, Shadow, Denied}
 use Rattle.trusted_cmds.specs.declared.command.Command.{Command}
 use Rattle.trusted_cmds.specs.declared.control.Control.TheVariants.{SetMultiple, Idle, CheckPowerMode, Diagnose}
-use Rattle.trusted_cmds.specs.declared.command.Command.TheVariants.{ReadQueued, WriteQueued, ReadDma, WriteDma, Send, Receive, Identify, ReadLog10, Flush, SetFeatures, ReadLog, ReadPio, WritePio, Verify, Control}
+use Rattle.trusted_cmds.specs.declared.command.Command.TheVariants.{ReadQueued, WriteQueued, ReadDma, WriteDma, Send, Receive, Identify, ReadLog10, Flush, SetFeatures, ReadLog, ReadPio, WritePio, Verify, Trim, Control}
 use Rattle.trusted_cmds.specs.declared.command.CommandError.{CommandError}
 use Rattle.trusted_cmds.specs.Commands.{fis_of, tag_with, sector_size, is_queued as is_queued_code}
 use Rattle.history.specs.Opening.{Origin}
-use Rattle.history.specs.Events.{QueueMended, Deed, Nothing, InSession, Silent, OfQueue, Wrote, Took, BlockedSid, Chose, WasReset, Event, did, or_else, latest}
+use Rattle.history.specs.Events.{QueueMended, Deed, Nothing, InSession, Silent, OfQueue, Wrote, Trimmed, Took, BlockedSid, Chose, WasReset, Event, did, or_else, latest}
 use Rattle.sessions.specs.Deeds.{StackTold}
 use Rattle.history.specs.Readers.{holding, held, failing, failure}
 use Rattle.history.specs.Items.{Items}
@@ -56,6 +56,7 @@ commands_of (ReadLog page dma) tag = refl
 commands_of (ReadPio lba count) tag = refl
 commands_of (WritePio lba count) tag = refl
 commands_of (Verify lba count) tag = refl
+commands_of (Trim blocks) tag = refl
 commands_of (Control control) tag = refl
 
 code_of : (command : Command) (tag : ℕ)
@@ -78,6 +79,7 @@ code_of (ReadLog page false) tag = refl
 code_of (ReadPio lba count) tag = refl
 code_of (WritePio lba count) tag = refl
 code_of (Verify lba count) tag = refl
+code_of (Trim blocks) tag = refl
 code_of (Control SetMultiple) tag = refl
 code_of (Control Idle) tag = refl
 code_of (Control CheckPowerMode) tag = refl
@@ -202,6 +204,7 @@ known-either items f h bytes (ReadLog page dma) tag queued free = absurd cc
 known-either items f h bytes (ReadPio lba count) tag queued free = absurd cc
 known-either items f h bytes (WritePio lba count) tag queued free = absurd cc
 known-either items f h bytes (Verify lba count) tag queued free = absurd cc
+known-either items f h bytes (Trim blocks) tag queued free = absurd cc
 known-either items f h bytes (Control control) tag queued free = absurd cc
 
 -- no data come with a tag
@@ -221,6 +224,7 @@ no-data items f (ReadLog page dma) tag queued = absurd cc
 no-data items f (ReadPio lba count) tag queued = absurd cc
 no-data items f (WritePio lba count) tag queued = absurd cc
 no-data items f (Verify lba count) tag queued = absurd cc
+no-data items f (Trim blocks) tag queued = absurd cc
 no-data items f (Control control) tag queued = absurd cc
 
 -- The FIS of a queued command, on a free tag.
@@ -279,6 +283,7 @@ is_of_queue Nothing = false
 is_of_queue (InSession deed response) = false
 is_of_queue (OfQueue deed) = true
 is_of_queue (Wrote lba bytes) = false
+is_of_queue (Trimmed extents) = false
 is_of_queue (Took com_id) = false
 is_of_queue (BlockedSid block) = false
 is_of_queue (Chose feature) = false
@@ -319,6 +324,7 @@ of-items Nothing h = refl
 of-items (InSession deed response) h = refl
 of-items (OfQueue deed) h = absurd cc
 of-items (Wrote lba bytes) h = refl
+of-items (Trimmed extents) h = refl
 of-items (Took com_id) h = refl
 of-items (BlockedSid block) h = refl
 of-items (Chose feature) h = refl
@@ -366,6 +372,7 @@ holds_nothing Nothing quiet = refl
 holds_nothing (InSession deed response) quiet = refl
 holds_nothing (OfQueue deed) quiet = absurd cc
 holds_nothing (Wrote lba bytes) quiet = refl
+holds_nothing (Trimmed extents) quiet = refl
 holds_nothing (Took com_id) quiet = refl
 holds_nothing (BlockedSid block) quiet = refl
 holds_nothing (Chose feature) quiet = refl
@@ -379,6 +386,7 @@ held_stays Nothing past tag quiet none = refl
 held_stays (InSession deed response) past tag quiet none = refl
 held_stays (OfQueue deed) past tag quiet none = absurd cc
 held_stays (Wrote lba bytes) past tag quiet none = refl
+held_stays (Trimmed extents) past tag quiet none = refl
 held_stays (Took com_id) past tag quiet none = refl
 held_stays (BlockedSid block) past tag quiet none = refl
 held_stays (Chose feature) past tag quiet none = refl
@@ -390,6 +398,7 @@ failure_stays Nothing past quiet none = refl
 failure_stays (InSession deed response) past quiet none = refl
 failure_stays (OfQueue deed) past quiet none = absurd cc
 failure_stays (Wrote lba bytes) past quiet none = refl
+failure_stays (Trimmed extents) past quiet none = refl
 failure_stays (Took com_id) past quiet none = refl
 failure_stays (BlockedSid block) past quiet none = refl
 failure_stays (Chose feature) past quiet none = refl
@@ -413,6 +422,7 @@ known-unqueued items f h bytes (ReadLog page dma) tag unqueued = refl
 known-unqueued items f h bytes (ReadPio lba count) tag unqueued = refl
 known-unqueued items f h bytes (WritePio lba count) tag unqueued = refl
 known-unqueued items f h bytes (Verify lba count) tag unqueued = refl
+known-unqueued items f h bytes (Trim blocks) tag unqueued = refl
 known-unqueued items f h bytes (Control control) tag unqueued = refl
 
 served-fis : (command : Command) (tag : ℕ) → is_queued_command command ≡ false → is_of_request command ≡ true
@@ -433,6 +443,7 @@ served-fis (ReadLog page dma) tag unqueued asked = absurd cc
 served-fis (ReadPio lba count) tag unqueued asked = absurd cc
 served-fis (WritePio lba count) tag unqueued asked = absurd cc
 served-fis (Verify lba count) tag unqueued asked = absurd cc
+served-fis (Trim blocks) tag unqueued asked = absurd cc
 served-fis (Control control) tag unqueued asked = absurd cc
 
 failed-fis : (command : Command) (error : ℕ)
@@ -451,6 +462,7 @@ failed-fis (ReadLog page dma) error = refl
 failed-fis (ReadPio lba count) error = refl
 failed-fis (WritePio lba count) error = refl
 failed-fis (Verify lba count) error = refl
+failed-fis (Trim blocks) error = refl
 failed-fis (Control control) error = refl
 
 read-data : (f : Facts) (command : Command) (tag : ℕ) → is_queued_command command ≡ false
@@ -472,6 +484,7 @@ read-data f (ReadLog page dma) tag unqueued whole = data-fits f (ReadLog page dm
 read-data f (ReadPio lba count) tag unqueued whole = data-fits f (ReadPio lba count) whole
 read-data f (WritePio lba count) tag unqueued whole = data-fits f (WritePio lba count) whole
 read-data f (Verify lba count) tag unqueued whole = data-fits f (Verify lba count) whole
+read-data f (Trim blocks) tag unqueued whole = data-fits f (Trim blocks) whole
 read-data f (Control control) tag unqueued whole = data-fits f (Control control) whole
 
 fises-by : (command : Command) (fis : List ℕ) (read : List Fis) (d : Deed) (e : Option ℕ)

@@ -5,7 +5,7 @@ use Rattle.std.proofs.lemmas.Nat.{pow_below}
 use Rattle.std.proofs.lemmas.Nat.Bits.{bit_at_or, bit_at_and, bit_at-pow_same, bit_at-pow_other, bit_at-lt, bit_at_not}
 use Rattle.hba_regs.specs.Registers.{Regs, without}
 use Rattle.trusted_cmds.specs.declared.command.Command.{Command}
-use Rattle.trusted_cmds.specs.declared.command.Command.TheVariants.{ReadQueued, WriteQueued, ReadDma, WriteDma, Send, Receive, Identify, ReadLog10, Flush, SetFeatures, ReadLog, ReadPio, WritePio, Verify, Control}
+use Rattle.trusted_cmds.specs.declared.command.Command.TheVariants.{ReadQueued, WriteQueued, ReadDma, WriteDma, Send, Receive, Identify, ReadLog10, Flush, SetFeatures, ReadLog, ReadPio, WritePio, Verify, Trim, Control}
 use Rattle.history.specs.Answers.{answer_fis, pio_fis, setup_fis, moved_fis, fises_of, ready, errored}
 use Rattle.port_history.specs.Stages.{is_queued_command}
 use Rattle.port_history.specs.Registers.{raised, with_task, no_more_issued, shown, all_shown, task_error_bit, register_bit, pio_setup_bit, device_bits_bit, carried}
@@ -115,6 +115,7 @@ executed-words tag regs (ReadLog page dma) = ready-words tag regs true
 executed-words tag regs (ReadPio lba count) = ready-words tag regs true
 executed-words tag regs (WritePio lba count) = ready-words tag regs true
 executed-words tag regs (Verify lba count) = ready-words tag regs true
+executed-words tag regs (Trim blocks) = ready-words tag regs true
 executed-words tag regs (Control control) = ready-words tag regs true
 
 pub failing-words : (tag : ℕ) (regs : Regs) (command : Command) (error : ℕ)
@@ -133,6 +134,7 @@ failing-words tag regs (ReadLog page dma) error = failed-words tag regs error
 failing-words tag regs (ReadPio lba count) error = failed-words tag regs error
 failing-words tag regs (WritePio lba count) error = failed-words tag regs error
 failing-words tag regs (Verify lba count) error = failed-words tag regs error
+failing-words tag regs (Trim blocks) error = failed-words tag regs error
 failing-words tag regs (Control control) error = failed-words tag regs error
 
 -- the two FISes of a completion
@@ -165,4 +167,5 @@ completed-words tag regs (ReadLog page dma) queued = absurd cc
 completed-words tag regs (ReadPio lba count) queued = absurd cc
 completed-words tag regs (WritePio lba count) queued = absurd cc
 completed-words tag regs (Verify lba count) queued = absurd cc
+completed-words tag regs (Trim blocks) queued = absurd cc
 completed-words tag regs (Control control) queued = absurd cc

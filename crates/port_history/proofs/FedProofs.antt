@@ -4,7 +4,7 @@ use Rattle.sp_cells.specs.Config.{Config}
 use Rattle.std.proofs.Common.{◌≡◌, ◌∙◌, ℕ, Bool, true, false, List, [], ◌∷◌, length, if◌then◌else◌, Option, Some, None, refl, sym, ap, subst}
 use Rattle.std.specs.Prelude.{option_map}
 use Rattle.trusted_cmds.specs.declared.command.Command.{Command}
-use Rattle.trusted_cmds.specs.declared.command.Command.TheVariants.{ReadQueued, WriteQueued, ReadDma, WriteDma, Send, Receive, Identify, ReadLog10, Flush, SetFeatures, ReadLog, ReadPio, WritePio, Verify, Control}
+use Rattle.trusted_cmds.specs.declared.command.Command.TheVariants.{ReadQueued, WriteQueued, ReadDma, WriteDma, Send, Receive, Identify, ReadLog10, Flush, SetFeatures, ReadLog, ReadPio, WritePio, Verify, Trim, Control}
 use Rattle.history.specs.Opening.{Origin}
 use Rattle.history.specs.Events.{Event}
 use Rattle.history.specs.Facts.{Facts, facts}
@@ -85,6 +85,7 @@ expected-brought (ReadLog page dma) queued = absurd cc
 expected-brought (ReadPio lba count) queued = absurd cc
 expected-brought (WritePio lba count) queued = absurd cc
 expected-brought (Verify lba count) queued = absurd cc
+expected-brought (Trim blocks) queued = absurd cc
 expected-brought (Control control) queued = absurd cc
 
 -- The act of a lawful step brings what its command wants.

@@ -12,7 +12,7 @@ use Rattle.std.proofs.Math.Nat.{mod-add-div}
 use Rattle.fis.specs.H2d.{h2d_at, IsH2dSpelling}
 use Rattle.fis.specs.declared.h2d.RegH2d.{RegH2d}
 use Rattle.trusted_cmds.specs.declared.command.Command.{Command}
-use Rattle.trusted_cmds.specs.declared.command.Command.TheVariants.{ReadQueued, WriteQueued, ReadDma, WriteDma, Send, Receive, Identify, ReadLog10, Flush, SetFeatures, ReadLog, ReadPio, WritePio, Verify, Control}
+use Rattle.trusted_cmds.specs.declared.command.Command.TheVariants.{ReadQueued, WriteQueued, ReadDma, WriteDma, Send, Receive, Identify, ReadLog10, Flush, SetFeatures, ReadLog, ReadPio, WritePio, Verify, Trim, Control}
 use Rattle.trusted_cmds.specs.Commands.{reading, fis_with, fis_of, tag_with, payload_length, sectors, sectors_field, most_sectors, sector_size, short_sectors}
 use Rattle.history.specs.Answers.{payload_of}
 use Rattle.history.proofs.Payloads.{payload-of-command}
@@ -126,6 +126,7 @@ fis_back (ReadLog page dma) tag = with-back _ _ _ _ _
 fis_back (ReadPio lba count) tag = with-back _ _ _ _ _
 fis_back (WritePio lba count) tag = with-back _ _ _ _ _
 fis_back (Verify lba count) tag = with-back _ _ _ _ _
+fis_back (Trim blocks) tag = with-back _ _ _ _ _
 fis_back (Control control) tag = with-back _ _ _ _ _
 
 -- a count of sectors, from its field
@@ -179,6 +180,7 @@ reads (ReadLog page dma) tag lt sized = absurd (unasked sized.asked)
 reads (ReadPio lba count) tag lt sized = absurd (unasked sized.asked)
 reads (WritePio lba count) tag lt sized = absurd (unasked sized.asked)
 reads (Verify lba count) tag lt sized = absurd (unasked sized.asked)
+reads (Trim blocks) tag lt sized = absurd (unasked sized.asked)
 reads (Control control) tag lt sized = absurd (unasked sized.asked)
 
 pub read_as-queued : (command : Command) → is_queued_command (read_as command) ≡ is_queued_command command
@@ -196,6 +198,7 @@ read_as-queued (ReadLog page dma) = refl
 read_as-queued (ReadPio lba count) = refl
 read_as-queued (WritePio lba count) = refl
 read_as-queued (Verify lba count) = refl
+read_as-queued (Trim blocks) = refl
 read_as-queued (Control control) = refl
 
 pub read_as-tag : (command : Command) (tag : ℕ)
@@ -214,6 +217,7 @@ read_as-tag (ReadLog page dma) tag = refl
 read_as-tag (ReadPio lba count) tag = refl
 read_as-tag (WritePio lba count) tag = refl
 read_as-tag (Verify lba count) tag = refl
+read_as-tag (Trim blocks) tag = refl
 read_as-tag (Control control) tag = refl
 
 -- How many bytes go to the device with a command.
@@ -236,6 +240,7 @@ not-general (ReadLog page dma) asked = refl
 not-general (ReadPio lba count) asked = absurd (unasked asked)
 not-general (WritePio lba count) asked = absurd (unasked asked)
 not-general (Verify lba count) asked = absurd (unasked asked)
+not-general (Trim blocks) asked = absurd (unasked asked)
 not-general (Control control) asked = absurd (unasked asked)
 
 -- The FIS of a command that is none of those: no profile reads more data with it than another.
@@ -266,6 +271,7 @@ old-code (ReadLog page false) tag none = record { not_short = refl; not_more = r
 old-code (ReadPio lba count) tag none = absurd (general none)
 old-code (WritePio lba count) tag none = absurd (general none)
 old-code (Verify lba count) tag none = absurd (general none)
+old-code (Trim blocks) tag none = absurd (general none)
 old-code (Control control) tag none = absurd (general none)
 
 pub any_profile : (p : Profile) (command : Command) (tag : ℕ) → is_general command ≡ false
@@ -305,6 +311,7 @@ plain-payload (ReadLog page false) tag sized = refl
 plain-payload (ReadPio lba count) tag sized = absurd (unasked sized.asked)
 plain-payload (WritePio lba count) tag sized = absurd (unasked sized.asked)
 plain-payload (Verify lba count) tag sized = absurd (unasked sized.asked)
+plain-payload (Trim blocks) tag sized = absurd (unasked sized.asked)
 plain-payload (Control control) tag sized = absurd (unasked sized.asked)
 
 pub payload_is : (p : Profile) (command : Command) (tag : ℕ) → IsSized command

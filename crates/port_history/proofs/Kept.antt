@@ -628,6 +628,7 @@ freed u t bytes (commands.ReadLog page dma) past = freed_by t past (u == t)
 freed u t bytes (commands.ReadPio lba count) past = freed_by t past (u == t)
 freed u t bytes (commands.WritePio lba count) past = freed_by t past (u == t)
 freed u t bytes (commands.Verify lba count) past = freed_by t past (u == t)
+freed u t bytes (commands.Trim blocks) past = freed_by t past (u == t)
 freed u t bytes (commands.Control control) past = freed_by t past (u == t)
 
 pub failure_moved : (u : ℕ) (bytes : List ℕ) (command : Command) (past : List Event)
@@ -646,6 +647,7 @@ failure_moved u bytes (commands.ReadLog page dma) past = refl
 failure_moved u bytes (commands.ReadPio lba count) past = refl
 failure_moved u bytes (commands.WritePio lba count) past = refl
 failure_moved u bytes (commands.Verify lba count) past = refl
+failure_moved u bytes (commands.Trim blocks) past = refl
 failure_moved u bytes (commands.Control control) past = refl
 
 pub kept_complete : (ms : List Moment) (u : ℕ) (put : Put) (e : Effect) (bytes : List ℕ) → u < 32

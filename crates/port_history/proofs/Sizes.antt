@@ -23,7 +23,7 @@ use Rattle.device_data.specs.declared.log_page.Failure.{Failure}
 use Rattle.shadow_mbr.specs.Stored.{zeros, sectors_from}
 use Rattle.transactions.specs.Bytes.{bytes_from}
 use Rattle.trusted_cmds.specs.declared.command.Command.{Command}
-use Rattle.trusted_cmds.specs.declared.command.Command.TheVariants.{ReadQueued, WriteQueued, ReadDma, WriteDma, Send, Receive, Identify, ReadLog10, Flush, SetFeatures, ReadLog, ReadPio, WritePio, Verify, Control}
+use Rattle.trusted_cmds.specs.declared.command.Command.TheVariants.{ReadQueued, WriteQueued, ReadDma, WriteDma, Send, Receive, Identify, ReadLog10, Flush, SetFeatures, ReadLog, ReadPio, WritePio, Verify, Trim, Control}
 use Rattle.locking.specs.declared.range.Op.TheVariants.{Read}
 use Rattle.locking.specs.declared.ranges.Verdict.{Verdict}
 use Rattle.locking.specs.declared.ranges.Verdict.TheVariants.{Serve, Shadow, Denied}
@@ -229,6 +229,7 @@ data-fits f (ReadLog pages dma) whole = omega (arith, length-device_log f.config
 data-fits f (ReadPio lba count) whole = read-fits f lba count (verdict_on f Read lba count) whole
 data-fits f (WritePio lba count) whole = omega arith
 data-fits f (Verify lba count) whole = omega arith
+data-fits f (Trim blocks) whole = omega arith
 data-fits f (Control control) whole = omega arith
 
 pub held-fits : (f : Facts) (command : Command) (v : Verdict)
@@ -248,4 +249,5 @@ held-fits f (ReadLog page dma) v whole = omega arith
 held-fits f (ReadPio lba count) v whole = omega arith
 held-fits f (WritePio lba count) v whole = omega arith
 held-fits f (Verify lba count) v whole = omega arith
+held-fits f (Trim blocks) v whole = omega arith
 held-fits f (Control control) v whole = omega arith

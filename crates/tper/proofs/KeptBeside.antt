@@ -5,7 +5,7 @@ use Rattle.transactions.specs.Stored.{Stored}
 use Rattle.sessions.specs.Live.{Live}
 use Rattle.sessions.specs.declared.beside.Beside.{Beside}
 use Rattle.history.specs.Opening.{Origin}
-use Rattle.history.specs.Events.{Deed, Nothing, OfQueue, Wrote, Chose, Event, or_else, latest}
+use Rattle.history.specs.Events.{Deed, Nothing, OfQueue, Wrote, Trimmed, Chose, Event, or_else, latest}
 use Rattle.history.specs.Readers.{waits, waiting, beside_then}
 use Rattle.history.specs.KeptStore.{StoresBy}
 use Rattle.history.specs.KeptSessions.{LivesBy}
@@ -18,6 +18,7 @@ abbrev pub spares : Deed → Bool
 spares Nothing = true
 spares (OfQueue deed) = true
 spares (Wrote lba bytes) = true
+spares (Trimmed extents) = true
 spares (Chose feature) = true
 spares _ = false
 
@@ -25,6 +26,7 @@ spares-store : (d : Deed) (s : Stored) → spares d ≡ true → StoresBy d s s
 spares-store Nothing s h = refl
 spares-store (OfQueue deed) s h = refl
 spares-store (Wrote lba bytes) s h = refl
+spares-store (Trimmed extents) s h = refl
 spares-store (Chose feature) s h = refl
 spares-store _ s h = cc
 
@@ -32,6 +34,7 @@ spares-live : (d : Deed) (l : Live) → spares d ≡ true → LivesBy d l l
 spares-live Nothing l h = record { next = refl; at = λ n. refl }
 spares-live (OfQueue deed) l h = record { next = refl; at = λ n. refl }
 spares-live (Wrote lba bytes) l h = record { next = refl; at = λ n. refl }
+spares-live (Trimmed extents) l h = record { next = refl; at = λ n. refl }
 spares-live (Chose feature) l h = record { next = refl; at = λ n. refl }
 spares-live _ l h = cc
 
@@ -39,6 +42,7 @@ spares-beside : (d : Deed) (b : Beside) → spares d ≡ true → beside_then d 
 spares-beside Nothing b h = refl
 spares-beside (OfQueue deed) b h = refl
 spares-beside (Wrote lba bytes) b h = refl
+spares-beside (Trimmed extents) b h = refl
 spares-beside (Chose feature) b h = refl
 spares-beside _ b h = cc
 
@@ -46,6 +50,7 @@ spares-waiting : (d : Deed) (com_id : ℕ) → spares d ≡ true → waits com_i
 spares-waiting Nothing com_id h = refl
 spares-waiting (OfQueue deed) com_id h = refl
 spares-waiting (Wrote lba bytes) com_id h = refl
+spares-waiting (Trimmed extents) com_id h = refl
 spares-waiting (Chose feature) com_id h = refl
 spares-waiting _ com_id h = cc
 
