@@ -11,14 +11,16 @@ use Rattle.history.specs.Opening.{Origin}
 use Rattle.trusted_cmds.specs.declared.command.Command.{Command}
 use Rattle.locking.specs.declared.ranges.Verdict.{Verdict}
 use Rattle.locking.specs.declared.ranges.Verdict.TheVariants.{Serve, Shadow, Denied}
-use Rattle.history.specs.Events.{HeldCommand, Wrote}
-use Rattle.history.specs.Readers.{held}
+use Rattle.history.specs.Events.{HeldCommand, Deed, Wrote}
+use Rattle.shadow_mbr.specs.Stored.{zeros}
+use Rattle.history.specs.Readers.{held, writing}
 use Rattle.history.specs.Facts.{Facts, facts}
 use Rattle.history.specs.Decisions.{aborted, on_drive, ranges_in_force, verdict_on}
 use Rattle.history.specs.Items.{Items}
 use Rattle.history.specs.Quiet.{IsQuiet, ReadsTags}
-use Rattle.history.specs.History.{Act, Accept, event_in, log_of}
+use Rattle.history.specs.History.{Act, Accept, event_by, event_in, log_of}
 use Rattle.history.specs.Looked.{IsLookedAtBy}
+use Rattle.history.specs.Tcg.{tcg, accepted_data, accepted_fises}
 use Rattle.history.specs.DenialLaws.{Reaches, IsFree}
 
 abbrev pub is_denied : Verdict → Bool
@@ -122,3 +124,43 @@ abbrev pub WriteLaw : Type 0
 WriteLaw =
     (items : Items) → IsQuiet items → (f : Facts) (act : Act) (lba : ℕ) (bytes : List ℕ)
     → (event_in items f act).deed ≡ Wrote lba bytes → Writes items f act lba bytes
+
+-- A command, with its tag, that reaches no data: no sectors of media, nor of the shadow in their place.
+abbrev pub ReachesNone : Command → Option ℕ → Type 0
+ReachesNone command tag = (op : Op) (lba count : ℕ) → Reaches command tag op lba count → ⊥
+
+-- No bytes are written to media: a sector is as it was, or zeros, where a method erased it.
+pub record LeavesMedia (deed : Deed) : Type 0 where
+  pub unwritten : (lba : ℕ) (bytes : List ℕ) → deed ≡ Wrote lba bytes → ⊥
+  pub left : (place : ℕ) → (writing place deed ≡ None) ⊎ (writing place deed ≡ Some zeros)
+
+-- Facts with other media.
+abbrev pub with_sectors : Facts → (ℕ → List ℕ) → Facts
+with_sectors f sectors = record f { sector = sectors }
+
+-- What an act does and gives, and its FISes, by the FIS that it accepts, are the same whatever media hold.
+pub record IsBlind (f : Facts) (act : Act) (fis : List ℕ) : Type 0 where
+  pub done : (sectors : ℕ → List ℕ) → event_by (with_sectors f sectors) act ≡ event_by f act
+  pub given : (sectors : ℕ → List ℕ)
+      → accepted_data (with_sectors f sectors) fis (event_by f act)
+      ≡ accepted_data f fis (event_by f act)
+  pub told : (sectors : ℕ → List ℕ)
+      → accepted_fises (with_sectors f sectors) fis (event_by f act)
+      ≡ accepted_fises f fis (event_by f act)
+
+-- A command that is looked at and reaches no data leaves media, whatever quiet items do; and by the items of this drive what it
+-- does and gives rests on nothing that media hold.
+abbrev pub UnwrittenLaw : Type 0
+UnwrittenLaw =
+    (items : Items) → IsQuiet items → (f : Facts) (act : Act) (command : Command) (tag : Option ℕ)
+    → IsLookedAtBy items f act command tag → ReachesNone command tag
+    → LeavesMedia (event_in items f act).deed
+
+abbrev pub UngivenLaw : Type 0
+UngivenLaw =
+    (f : Facts) (act : Act) (command : Command) (tag : Option ℕ)
+    → (looked : IsLookedAtBy tcg f act command tag) → ReachesNone command tag
+    → IsBlind f act looked.fis
+
+abbrev pub UnreachedLaw : Type 0
+UnreachedLaw = UnwrittenLaw × UngivenLaw

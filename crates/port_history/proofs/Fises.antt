@@ -274,18 +274,22 @@ old-code (Verify lba count) tag none = absurd (general none)
 old-code (Trim blocks) tag none = absurd (general none)
 old-code (Control control) tag none = absurd (general none)
 
-pub any_profile : (p : Profile) (command : Command) (tag : ℕ) → is_general command ≡ false
-    → payload_length_in p (fis_of command tag) ≡ payload_length (fis_of command tag)
-any_profile Base command tag none = refl
-any_profile Field command tag none =
+field-length : (command : Command) (tag : ℕ) → is_general command ≡ false
+    → field_payload_length (fis_of command tag) ≡ payload_length (fis_of command tag)
+field-length command tag none =
     ap
     (λ (b : Bool). cond b (sector_size * short_sectors (fis_of command tag)) (payload_length (fis_of command tag)))
     (old-code command tag none).not_short
+
+pub any_profile : (p : Profile) (command : Command) (tag : ℕ) → is_general command ≡ false
+    → payload_length_in p (fis_of command tag) ≡ payload_length (fis_of command tag)
+any_profile Base command tag none = refl
+any_profile Field command tag none = field-length command tag none
 any_profile Opal command tag none =
     ap
     (λ (b : Bool). cond b (sector_size * sectors_moved (fis_of command tag)) (field_payload_length (fis_of command tag)))
     (old-code command tag none).not_more
-    ∙ any_profile Field command tag none
+    ∙ field-length command tag none
 
 -- As many as its FIS asks for, where it is not queued.
 plain-payload : (command : Command) (tag : ℕ) → IsSized command

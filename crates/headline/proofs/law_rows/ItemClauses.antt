@@ -7,16 +7,17 @@ use Rattle.audit.specs.declared.reason.Why.{Why}
 use Rattle.fis.specs.declared.h2d.RegH2d.{RegH2d}
 use Rattle.compacket.specs.Frames.{reading as frame_in}
 use Rattle.trusted_cmds.specs.declared.command.Command.{Command}
+use Rattle.trusted_cmds.specs.declared.command.Command.TheVariants.{Flush}
 use Rattle.locking.specs.Range.{RangeRows, row_at, is_shadowed}
 use Rattle.locking.specs.Verdict.{AreOpen, ArePermitted, AreShadowed, IsLeastDenied, is_permitted, verdict_of, why_of, shadow_why}
 use Rattle.locking.specs.declared.range.Op.{Op}
 use Rattle.locking.specs.declared.range.Op.TheVariants.{Read, Write}
 use Rattle.locking.specs.declared.ranges.Verdict.TheVariants.{Denied}
 use Rattle.history.specs.Decisions.{on_drive, ranges_in_force, verdict_on}
-use Rattle.history.specs.DenialLaws.{Reaches, IsFree}
+use Rattle.history.specs.DenialLaws.{Reaches, read_queued, write_queued, read_dma, write_dma, read_pio, write_pio, verify, IsFree}
 use Rattle.history.specs.Events.{HeldCommand, QueueDeed, OfQueue, Wrote, Took}
 use Rattle.history.specs.Facts.{Facts, facts}
-use Rattle.history.specs.History.{Act, Accept, event_in, log_of}
+use Rattle.history.specs.History.{Act, Accept, event_by, event_in, log_of}
 use Rattle.history.specs.Items.{Items}
 use Rattle.history.specs.Looked.{IsLookedAtBy}
 use Rattle.history.specs.NoTrace.{IsByOwnView, AreSameBut, with_views, is_framed_for}
@@ -24,7 +25,7 @@ use Rattle.history.specs.Opening.{Origin}
 use Rattle.history.specs.Quiet.{IsQuiet, ReadsTags, is_quiet}
 use Rattle.history.specs.Readers.{held}
 use Rattle.history.specs.Tcg.{tcg}
-use Rattle.history.specs.TransferLaws.{VerdictLaw, HeldLaw, TagLaw, ServiceLaw, WriteLaw, IsPermitted, IsReason, is_denied}
+use Rattle.history.specs.TransferLaws.{VerdictLaw, HeldLaw, TagLaw, ServiceLaw, WriteLaw, UnreachedLaw, ReachesNone, with_sectors, IsPermitted, IsReason, is_denied}
 use Rattle.headline.proofs.law_rows.Lists.{not_both}
 
 -- `quiet`: no send writes sectors, takes a response or changes the queue.
@@ -176,3 +177,27 @@ write_says law items quiet f act lba bytes wrote =
       its.on_drive,
       its.permitted,
     )
+
+-- `unreached`: FLUSH CACHE reaches no data. So it writes none, and fails or not whatever media hold.
+flush_reaches : (c : Command) (t : Option ℕ) (op : Op) (lba count : ℕ) → Reaches c t op lba count → c ≡ Flush → ⊥
+flush_reaches c t op lba count (read_queued {lba = x} {count = y} {tag = z}) is = cc
+flush_reaches c t op lba count (write_queued {lba = x} {count = y} {tag = z}) is = cc
+flush_reaches c t op lba count (read_dma {lba = x} {count = y}) is = cc
+flush_reaches c t op lba count (write_dma {lba = x} {count = y}) is = cc
+flush_reaches c t op lba count (read_pio {lba = x} {count = y}) is = cc
+flush_reaches c t op lba count (write_pio {lba = x} {count = y}) is = cc
+flush_reaches c t op lba count (verify {lba = x} {count = y}) is = cc
+
+flush_apart : ReachesNone Flush None
+flush_apart op lba count reaches = flush_reaches Flush None op lba count reaches refl
+
+flush_writes_none : UnreachedLaw → (items : Items) → IsQuiet items → (f : Facts) (act : Act) (lba : ℕ)
+    (bytes : List ℕ) → IsLookedAtBy items f act Flush None
+    → (event_in items f act).deed ≡ Wrote lba bytes → ⊥
+flush_writes_none law items quiet f act lba bytes looked =
+    (law.0 items quiet f act Flush None looked flush_apart).unwritten lba bytes
+
+flush_is_blind : UnreachedLaw → (f : Facts) (act : Act) (sectors : ℕ → List ℕ)
+    → IsLookedAtBy tcg f act Flush None
+    → event_by (with_sectors f sectors) act ≡ event_by f act
+flush_is_blind law f act sectors looked = (law.1 f act Flush None looked flush_apart).done sectors
