@@ -54,12 +54,14 @@ use Rattle.trusted_cmds.specs.BlockSid.{is_block_sid, block_asked, is_blocked}
 use Rattle.device_data.specs.Discovery.{has_owner}
 use Rattle.history.specs.Events.{Nothing, Wrote, Took, HeldCommand, Event, did, WasReset, BlockedSid, ignores, Silent, InSession}
 use Rattle.history.specs.Facts.{Facts, session_named, has_open, standing}
-use Rattle.history.specs.Decisions.{not_found, fails, refuses, aborted, fails_queue, on_drive, verdict_on, queued_by, admitted, unqueued_by, is_trusted, is_session_com_id, discovery_com_id, received, while_failed, is_busy, completed_by, completed, resets, is_received, unreceived, asks_stack}
+use Rattle.history.specs.Decisions.{not_found, fails, refuses, aborted, fails_queue, on_drive, verdict_on, queued_by, admitted, unqueued_by, is_trusted, is_session_com_id, discovery_com_id, received, while_failed, is_busy, completed_by, completed, resets, is_received, unreceived, asks_stack, are_on_drive, first_denial, trimmed_by, trimmed, ranges_in_force}
+use Rattle.trusted_cmds.specs.declared.trim.Extent.{Extent}
+use Rattle.trusted_cmds.specs.Trims.{extents_in}
 use Rattle.history.specs.Tcg.{answers, breaks_off, broken_off, is_discarded, manager_event, start_verdict, started_by, started, is_method_of_manager, to_manager, judgement_on, begins_on, ends_on, in_session, is_manager, to_session, framed, sent, unqueued, known, commanded, tcg, command_read, item_in, blocks_sid, send_item, send, unsent, is_sent, properties_told, unframed, unframed_in, broken_of, sent_by, stack_reset, stack_kept, stack_sent, send_other}
 use Rattle.methods.specs.Calls.{tried_in, outcome_of}
 use Rattle.history.specs.History.{Act, Accept, Complete, Reset, SoftwareReset, event_by}
 use Rattle.history.specs.MethodLaws.{IsLookedAt, IsSent, IsCall}
-use Rattle.history.specs.DenialLaws.{Reaches, read_queued, write_queued, read_dma, write_dma, read_pio, write_pio, verify, IsFree, TransferDenied, MethodDenied, AttemptDenied, StartDenied, IsDenied, DenialLaw}
+use Rattle.history.specs.DenialLaws.{Reaches, read_queued, write_queued, read_dma, write_dma, read_pio, write_pio, verify, IsFree, TransferDenied, MethodDenied, AttemptDenied, StartDenied, TrimDenied, IsDenied, DenialLaw}
 use Rattle.history.proofs.MethodProofs.{looked_event, looked_law, sent_law, call_law}
 use Rattle.sp_cells.specs.Resets.{programmatic}
 use Rattle.audit.specs.declared.rules.rule.Rule.TheVariants.{NoCommand, Unreadable, Mixed, BeyondDrive, SidKept, NoMethod, OutsideTable, TooLong, GlobalLocked, NoFrame, Discarded, BrokenOff, ManyRandomBytes}
@@ -68,7 +70,7 @@ use Rattle.basics.specs.Profiles.{has_opal}
 use Rattle.compacket.specs.declared.session.Named.{Named}
 use Rattle.device_data.specs.StackReset.{is_stack_reset}
 
--- forward: each of the four is denied for its reason
+-- forward: each of them is denied for its reason
 
 moved : (f : Facts) (h : RegH2d) (payload : List ℕ) (command : Command) (tag : Option ℕ) (op : Op) (lba count : ℕ) (why : Why) → Reaches command tag op lba count → IsFree f tag → on_drive f lba count ≡ true → verdict_on f op lba count ≡ Denied why → (looked_event tcg f h payload command tag).denied ≡ Some why
 moved f h payload c tag op lba count why (read_queued {lba = l} {count = n} {tag = t}) free drive v =
@@ -99,6 +101,13 @@ transfer-denied : (f : Facts) (act : Act) (why : Why) → TransferDenied f act w
 transfer-denied f act why d =
     ap (λ (e : Event). e.denied) (looked_law tcg f act d.command d.tag d.looked)
     ∙ moved f (h2d_at d.looked.fis) d.looked.payload d.command d.tag d.op d.lba d.count why d.moves d.free d.on_drive d.verdict
+
+trim-denied : (f : Facts) (act : Act) (why : Why) → TrimDenied f act why → (event_by f act).denied ≡ Some why
+trim-denied f act why d =
+    let extents = extents_in d.looked.payload in
+    ap (λ (e : Event). e.denied) (looked_law tcg f act (Trim d.blocks) None d.looked)
+    ∙ ap (λ b. (cond b (trimmed_by extents (first_denial (ranges_in_force f) extents)) (fails not_found None (Some BeyondDrive))).denied) d.on_drive
+    ∙ ap (λ x. (trimmed_by extents x).denied) d.denial
 
 method-denied : (f : Facts) (act : Act) (why : Why) → MethodDenied f act why → (event_by f act).denied ≡ Some why
 method-denied f act why d =
@@ -138,9 +147,10 @@ denied-if : (f : Facts) (act : Act) (why : Why) → IsDenied f act why → (even
 denied-if f act why (inl d) = transfer-denied f act why d
 denied-if f act why (inr (inl d)) = method-denied f act why d
 denied-if f act why (inr (inr (inl d))) = attempt-denied f act why d
-denied-if f act why (inr (inr (inr d))) = start-denied f act why d
+denied-if f act why (inr (inr (inr (inl d)))) = start-denied f act why d
+denied-if f act why (inr (inr (inr (inr d)))) = trim-denied f act why d
 
--- back: what has a reason is one of the four
+-- back: what has a reason is one of them
 
 nothing : {why : Why} → None ≡ Some why → ⊥
 nothing h = cc
@@ -343,7 +353,7 @@ called-is f act why com_id frame sent manager object method args status calls fa
     by_verdict : (c : Opening) → opening_of f.config.profile (values_of args) ≡ Some c → (v : StartVerdict) → start_verdict f (Some c) ≡ v → denied_with (Some c) v ≡ Some why → IsDenied f act why
     by_verdict c shaped (Refused s r) is g = absurd (nothing g)
     by_verdict c shaped (Attempted sp None) is g = absurd (nothing g)
-    by_verdict c shaped (Attempted sp (Some failure)) is g = inr (inr (inr (record {
+    by_verdict c shaped (Attempted sp (Some failure)) is g = inr (inr (inr (inl (record {
       com_id = com_id;
       frame = frame;
       sent = sent;
@@ -361,7 +371,7 @@ called-is f act why com_id frame sent manager object method args status calls fa
       failure = failure;
       fails = is;
       why_is = sym (same-why g);
-    })))
+    }))))
 
     by_opening : (x : Option Opening) → opening_of f.config.profile (values_of args) ≡ x → (started_by f com_id (host_of (values_of args)) x).denied ≡ Some why → IsDenied f act why
     by_opening None is g = absurd (nothing g)
@@ -467,6 +477,25 @@ none-if : (b : Bool) (x y : Event) → x.denied ≡ None → y.denied ≡ None �
 none-if true x y h g = h
 none-if false x y h g = g
 
+trims-is : (f : Facts) (act : Act) (why : Why) (blocks : ℕ) (looked : IsLookedAt f act (Trim blocks) None)
+    → (trimmed f (extents_in looked.payload)).denied ≡ Some why → IsDenied f act why
+trims-is f act why blocks looked h = by (are_on_drive f.config.sectors extents) (first_denial (ranges_in_force f) extents) refl refl h
+  where
+    extents : List Extent
+    extents = extents_in looked.payload
+
+    by : (on : Bool) (x : Option Why) → are_on_drive f.config.sectors extents ≡ on → first_denial (ranges_in_force f) extents ≡ x
+        → (cond on (trimmed_by extents x) (fails not_found None (Some BeyondDrive))).denied ≡ Some why → IsDenied f act why
+    by true None on-is x-is g = absurd (nothing g)
+    by true (Some w) on-is x-is g =
+        inr (inr (inr (inr (record {
+          blocks = blocks;
+          looked = looked;
+          on_drive = on-is;
+          denial = x-is ∙ ap (λ (y : Why). Some y) (same-why g);
+        }))))
+    by false x on-is x-is g = absurd (nothing g)
+
 unqueued-is : (f : Facts) (act : Act) (why : Why) (command : Command) (looked : IsLookedAt f act command None) → (unqueued f looked.payload command).denied ≡ Some why → IsDenied f act why
 unqueued-is f act why (ReadDma l n) looked h = moves-is f act why (ReadDma l n) None looked Read l n read_dma tt (unqueued_by Nothing) (fails not_found None (Some BeyondDrive)) refl refl refl (λ w. refl) h
 unqueued-is f act why (WriteDma l n) looked h = moves-is f act why (WriteDma l n) None looked Write l n write_dma tt (unqueued_by (Wrote l looked.payload)) (fails not_found None (Some BeyondDrive)) refl refl refl (λ w. refl) h
@@ -496,6 +525,7 @@ unqueued-is f act why (ReadLog page dma) looked h = absurd (nothing h)
 unqueued-is f act why (ReadPio l n) looked h = moves-is f act why (ReadPio l n) None looked Read l n read_pio tt (unqueued_by Nothing) (fails not_found None (Some BeyondDrive)) refl refl refl (λ w. refl) h
 unqueued-is f act why (WritePio l n) looked h = moves-is f act why (WritePio l n) None looked Write l n write_pio tt (unqueued_by (Wrote l looked.payload)) (fails not_found None (Some BeyondDrive)) refl refl refl (λ w. refl) h
 unqueued-is f act why (Verify l n) looked h = moves-is f act why (Verify l n) None looked Read l n verify tt (unqueued_by Nothing) (fails not_found None (Some BeyondDrive)) refl refl refl (λ w. refl) h
+unqueued-is f act why (Trim blocks) looked h = trims-is f act why blocks looked h
 unqueued-is f act why (Control control) looked h = absurd (nothing h)
 
 looked-is : (f : Facts) (act : Act) (why : Why) (command : Command) (tag : Option ℕ) (looked : IsLookedAt f act command tag) → (looked_event tcg f (h2d_at looked.fis) looked.payload command tag).denied ≡ Some why → IsDenied f act why

@@ -16,6 +16,8 @@ use Rattle.trusted_cmds.specs.Commands.{fault_of, read_unless}
 use Rattle.locking.specs.declared.ranges.Verdict.{Verdict}
 use Rattle.locking.specs.declared.ranges.Verdict.TheVariants.{Serve, Shadow, Denied}
 use Rattle.device_data.specs.declared.log_page.Failure.{Failure}
+use Rattle.history.proofs.TrimProofs.{trimmed-has}
+use Rattle.trusted_cmds.specs.Trims.{extents_in}
 use Rattle.history.specs.Events.{HeldCommand, Held, Completed, CompletedWrite, QueueFailed, QueueMended, QueueEnded, Deed, Nothing, InSession, OfQueue, Wrote, Trimmed, Took, BlockedSid, Chose, WasReset, Event, did, Silent}
 use Rattle.history.specs.Readers.{holding, held}
 use Rattle.history.specs.Facts.{Facts, facts}
@@ -93,6 +95,7 @@ unqueued-none items still f payload (Receive p c b d) = none-if (asks_stack f.co
 unqueued-none items still f payload (ReadPio l n) = none-if (on_drive f l n) (unqueued_by Nothing (verdict_on f Read l n)) (fails not_found None (Some BeyondDrive)) (unqueued_by-none Nothing (verdict_on f Read l n) refl) refl
 unqueued-none items still f payload (WritePio l n) = none-if (on_drive f l n) (unqueued_by (Wrote l payload) (verdict_on f Write l n)) (fails not_found None (Some BeyondDrive)) (unqueued_by-none (Wrote l payload) (verdict_on f Write l n) refl) refl
 unqueued-none items still f payload (Verify l n) = none-if (on_drive f l n) (unqueued_by Nothing (verdict_on f Read l n)) (fails not_found None (Some BeyondDrive)) (unqueued_by-none Nothing (verdict_on f Read l n) refl) refl
+unqueued-none items still f payload (Trim blocks) = trimmed-has (λ e. is_holding e.deed ≡ false) f (extents_in payload) refl (λ why. refl) refl
 unqueued-none items still f payload _ = refl
 
 -- an act that holds a command

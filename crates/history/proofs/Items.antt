@@ -17,13 +17,15 @@ use Rattle.tcg_tokens.specs.declared.error.TokenError.{TokenError}
 use Rattle.tcg_tokens.specs.Message.{Message, end_session}
 use Rattle.tcg_tokens.specs.Reading.{reading as message_in}
 use Rattle.trusted_cmds.specs.declared.command.Command.{Command}
-use Rattle.trusted_cmds.specs.declared.command.Command.TheVariants.{ReadQueued, WriteQueued, ReadDma, WriteDma, Send, Receive, ReadLog10, ReadPio, WritePio, Verify}
+use Rattle.trusted_cmds.specs.declared.command.Command.TheVariants.{ReadQueued, WriteQueued, ReadDma, WriteDma, Send, Receive, ReadLog10, ReadPio, WritePio, Verify, Trim}
 use Rattle.trusted_cmds.specs.declared.command.CommandError.{CommandError}
 use Rattle.locking.specs.declared.ranges.Verdict.{Verdict}
 use Rattle.locking.specs.declared.ranges.Verdict.TheVariants.{Serve, Shadow, Denied}
 use Rattle.sessions.specs.Deeds.{Begun, SessionDeed, StackReset, StackTold}
 use Rattle.trusted_cmds.specs.BlockSid.{is_block_sid, block_asked, is_blocked}
 use Rattle.device_data.specs.Discovery.{has_owner}
+use Rattle.history.proofs.TrimProofs.{trimmed-has}
+use Rattle.trusted_cmds.specs.Trims.{extents_in}
 use Rattle.history.specs.Events.{Response, Silent, Dropped, HeldCommand, Deed, Nothing, InSession, Wrote, Event, or_else, WasReset, did, ignores, BlockedSid}
 use Rattle.history.specs.Facts.{Facts, is_named, if_named, session_named, is_on_com_id}
 use Rattle.history.specs.Decisions.{aborted, not_found, fails, refuses, fails_queue, on_drive, verdict_on, queued_by, queued_transfer, admitted, unqueued_by, unqueued_transfer, is_trusted, is_session_com_id, discovery_com_id, received, while_failed, is_busy, completed_by, completed, resets, asks_stack, is_received, unreceived}
@@ -159,6 +161,7 @@ unqueued-comes f payload (Receive protocol com_id blocks dma) =
 unqueued-comes f payload (ReadPio lba count) = transfer-comes f Nothing Read lba count refl
 unqueued-comes f payload (WritePio lba count) = transfer-comes f (Wrote lba payload) Write lba count refl
 unqueued-comes f payload (Verify lba count) = transfer-comes f Nothing Read lba count refl
+unqueued-comes f payload (Trim blocks) = trimmed-has (Comes f) f (extents_in payload) (no_item refl) (λ why. no_item refl) (no_item refl)
 unqueued-comes f payload _ = no_item refl
 
 queued_by-comes : (f : Facts) (h : RegH2d) (tag : ℕ) (c : Command) (v : Verdict) → Comes f (queued_by h tag c v)

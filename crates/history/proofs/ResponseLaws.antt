@@ -12,13 +12,15 @@ use Rattle.compacket.specs.declared.error.FrameError.{FrameError}
 use Rattle.compacket.specs.Frames.{Frame, reading as frame_in}
 use Rattle.tcg_tokens.specs.Reading.{reading as message_in}
 use Rattle.trusted_cmds.specs.declared.command.Command.{Command}
-use Rattle.trusted_cmds.specs.declared.command.Command.TheVariants.{ReadQueued, WriteQueued, ReadDma, WriteDma, Send, Receive, ReadLog10, ReadPio, WritePio, Verify}
+use Rattle.trusted_cmds.specs.declared.command.Command.TheVariants.{ReadQueued, WriteQueued, ReadDma, WriteDma, Send, Receive, ReadLog10, ReadPio, WritePio, Verify, Trim}
 use Rattle.trusted_cmds.specs.declared.command.CommandError.{CommandError}
 use Rattle.locking.specs.declared.ranges.Verdict.{Verdict}
 use Rattle.locking.specs.declared.ranges.Verdict.TheVariants.{Serve, Shadow, Denied}
 use Rattle.sessions.specs.Deeds.{Begun, StackTold}
 use Rattle.trusted_cmds.specs.BlockSid.{is_block_sid, block_asked, is_blocked}
 use Rattle.device_data.specs.Discovery.{has_owner}
+use Rattle.history.proofs.TrimProofs.{trimmed-has}
+use Rattle.trusted_cmds.specs.Trims.{extents_in}
 use Rattle.history.specs.Events.{did, HeldCommand, Deed, Nothing, InSession, Left, Silent, Wrote, Trimmed, Event, or_else, OfQueue, Took, BlockedSid, Chose, WasReset, latest, ignores, Dropped}
 use Rattle.history.specs.Facts.{Facts, facts, session_named}
 use Rattle.history.specs.Decisions.{aborted, not_found, fails, refuses, fails_queue, on_drive, verdict_on, queued_by, queued_transfer, admitted, unqueued_by, unqueued_transfer, is_trusted, is_session_com_id, discovery_com_id, received, while_failed, is_busy, completed_by, completed, resets, is_received, unreceived, asks_stack}
@@ -95,6 +97,7 @@ unqueued-on f payload (Receive protocol com_id blocks dma) =
 unqueued-on f payload (ReadPio lba count) = transfer-on f Nothing Read lba count refl
 unqueued-on f payload (WritePio lba count) = transfer-on f (Wrote lba payload) Write lba count refl
 unqueued-on f payload (Verify lba count) = transfer-on f Nothing Read lba count refl
+unqueued-on f payload (Trim blocks) = trimmed-has (λ e. on_session e.deed ≡ true) f (extents_in payload) refl (λ why. refl) refl
 unqueued-on f payload _ = refl
 
 queued_by-on : (h : RegH2d) (tag : ℕ) (c : Command) (v : Verdict) → on_session (queued_by h tag c v).deed ≡ true

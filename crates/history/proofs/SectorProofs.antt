@@ -21,6 +21,8 @@ use Rattle.sessions.specs.Deeds.{Begun, StackTold}
 use Rattle.trusted_cmds.specs.BlockSid.{is_block_sid, block_asked, is_blocked}
 use Rattle.device_data.specs.Discovery.{has_owner}
 use Rattle.history.specs.Opening.{Origin}
+use Rattle.history.proofs.TrimProofs.{trimmed-has}
+use Rattle.trusted_cmds.specs.Trims.{extents_in, has_sector}
 use Rattle.history.specs.Events.{did, HeldCommand, Deed, Nothing, InSession, Wrote, Event, or_else, OfQueue, Took, BlockedSid, Chose, WasReset, latest, CompletedWrite, Completed, Held, QueueFailed, QueueMended, QueueEnded, ignores, Silent}
 use Rattle.history.specs.Facts.{Facts, facts, session_named}
 use Rattle.history.specs.Decisions.{aborted, not_found, fails, refuses, fails_queue, on_drive, verdict_on, queued_by, queued_transfer, admitted, unqueued_by, unqueued_transfer, is_trusted, is_session_com_id, discovery_com_id, received, while_failed, is_busy, completed_by, completed, resets, is_received, unreceived, asks_stack, receive_other}
@@ -105,6 +107,7 @@ unqueued-quiet f payload (Receive protocol com_id blocks dma) = either (asks_sta
 unqueued-quiet f payload (ReadPio lba count) = transfer-quiet f Nothing Read lba count refl
 unqueued-quiet f payload (WritePio lba count) = transfer-quiet f (Wrote lba payload) Write lba count refl
 unqueued-quiet f payload (Verify lba count) = transfer-quiet f Nothing Read lba count refl
+unqueued-quiet f payload (Trim blocks) = trimmed-has (λ e. quiet e.deed ≡ true) f (extents_in payload) refl (λ why. refl) refl
 unqueued-quiet f payload _ = refl
 
 queued_by-quiet : (h : RegH2d) (tag : ℕ) (c : Command) (v : Verdict) → quiet (queued_by h tag c v).deed ≡ true
@@ -204,6 +207,7 @@ queue-left place past QueueEnded h rest = rest
 
 deed-left : (f : Facts) (act : Act) (place : ℕ) (past : List Event) (d : Deed) → IsFed f act → f.config.sectors ≤ place → (event_by f act).deed ≡ d → quiet d ≡ true → sector past place ≡ zeros → left place (writing place d) past ≡ zeros
 deed-left f act place past (Wrote lba bytes) fed le is h rest = left-none place past (part_of place lba bytes) (wrote-none f act place lba bytes fed le is) rest
+deed-left f act place past (Trimmed extents) fed le is h rest = erased-left place past (list_any (has_sector place) extents) rest
 deed-left f act place past (OfQueue d) fed le is h rest = queue-left place past d h rest
 deed-left f act place past (InSession d r) fed le is h rest = erased-left place past (is_erased (erased_by d) place) rest
 deed-left f act place past Nothing fed le is h rest = rest

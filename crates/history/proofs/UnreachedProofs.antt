@@ -9,14 +9,14 @@ use Rattle.locking.specs.declared.ranges.Verdict.{Verdict}
 use Rattle.locking.specs.declared.ranges.Verdict.TheVariants.{Serve, Shadow, Denied}
 use Rattle.trusted_cmds.specs.Commands.{is_queued, sector_size, is_protocol_list}
 use Rattle.trusted_cmds.specs.declared.command.Command.{Command}
-use Rattle.trusted_cmds.specs.declared.command.Command.TheVariants.{ReadQueued, WriteQueued, ReadDma, WriteDma, Send, Receive, Identify, ReadLog10, Flush, SetFeatures, ReadLog, ReadPio, WritePio, Verify, Control}
+use Rattle.trusted_cmds.specs.declared.command.Command.TheVariants.{ReadQueued, WriteQueued, ReadDma, WriteDma, Send, Receive, Identify, ReadLog10, Flush, SetFeatures, ReadLog, ReadPio, WritePio, Verify, Trim, Control}
 use Rattle.trusted_cmds.specs.declared.command.CommandError.{CommandError}
 use Rattle.device_data.specs.ErrorLog.{sized}
 use Rattle.device_data.specs.Protocols.{protocol_list}
 use Rattle.shadow_mbr.specs.Erasure.{is_erased}
 use Rattle.shadow_mbr.specs.Stored.{zeros}
 use Rattle.sessions.specs.Deeds.{StackTold, erased_by}
-use Rattle.history.specs.Events.{QueueDeed, Held, Completed, CompletedWrite, QueueFailed, QueueMended, QueueEnded, Deed, Nothing, InSession, Silent, OfQueue, Wrote, Took, BlockedSid, Chose, WasReset, Event, did}
+use Rattle.history.specs.Events.{QueueDeed, Held, Completed, CompletedWrite, QueueFailed, QueueMended, QueueEnded, Deed, Nothing, InSession, Silent, OfQueue, Wrote, Trimmed, Took, BlockedSid, Chose, WasReset, Event, did}
 use Rattle.history.specs.Readers.{writing}
 use Rattle.history.specs.Facts.{Facts}
 use Rattle.history.specs.Decisions.{not_found, refuses, fails_queue, on_drive, verdict_on, queued_by, admitted, received, is_busy, resets, unqueued_of, while_failed, is_received, unreceived, asks_stack, asks_certificates, receive_other}
@@ -35,6 +35,7 @@ use Rattle.audit.specs.declared.rules.rule.Rule.TheVariants.{NoCommand, Mixed, B
 abbrev is_write : Deed → Bool
 is_write (Wrote lba bytes) = true
 is_write (OfQueue (CompletedWrite tag lba bytes)) = true
+is_write (Trimmed extents) = true
 is_write _ = false
 
 true-false : true ≡ false → ⊥
@@ -58,6 +59,7 @@ leaves deed none = record { unwritten = λ lba bytes is. true-false (sym (ap is_
 
     left : (d : Deed) → is_write d ≡ false → (place : ℕ) → (writing place d ≡ None) ⊎ (writing place d ≡ Some zeros)
     left (Wrote lba bytes) h place = absurd (true-false h)
+    left (Trimmed extents) h place = absurd (true-false h)
     left (OfQueue d) h place = of-queue d h place
     left (InSession d response) h place = erased (is_erased (erased_by d) place)
     left Nothing h place = inl refl
@@ -75,6 +77,7 @@ quiet-none Nothing h = refl
 quiet-none (InSession deed response) h = refl
 quiet-none (OfQueue deed) h = cc
 quiet-none (Wrote lba bytes) h = cc
+quiet-none (Trimmed extents) h = cc
 quiet-none (Took com_id) h = refl
 quiet-none (BlockedSid block) h = refl
 quiet-none (Chose feature) h = refl
@@ -85,11 +88,11 @@ received-none com_id blocks None = refl
 received-none com_id blocks (Some r) = none-if (nat_le (length r) (sector_size * blocks)) (did (Took com_id)) (did Nothing) refl refl
 
 unqueued-none : (items : Items) (still : IsQuiet items) (f : Facts) (payload : List ℕ) (c : Command) → ReachesNone c None → is_write (unqueued_of items f payload c).deed ≡ false
-unqueued-none items still f payload (ReadDma l n) none = absurd (none Read l n read_dma)
-unqueued-none items still f payload (WriteDma l n) none = absurd (none Write l n write_dma)
-unqueued-none items still f payload (ReadPio l n) none = absurd (none Read l n read_pio)
-unqueued-none items still f payload (WritePio l n) none = absurd (none Write l n write_pio)
-unqueued-none items still f payload (Verify l n) none = absurd (none Read l n verify)
+unqueued-none items still f payload (ReadDma l n) none = absurd (none.reached Read l n read_dma)
+unqueued-none items still f payload (WriteDma l n) none = absurd (none.reached Write l n write_dma)
+unqueued-none items still f payload (ReadPio l n) none = absurd (none.reached Read l n read_pio)
+unqueued-none items still f payload (WritePio l n) none = absurd (none.reached Write l n write_pio)
+unqueued-none items still f payload (Verify l n) none = absurd (none.reached Read l n verify)
 unqueued-none items still f payload (Send p c b d) none =
     none-if (resets f.rows (Send p c b d)) (did (WasReset programmatic)) (items.sends f p c b payload) refl
     (quiet-none (items.sends f p c b payload).deed (still f p c b payload))
@@ -103,6 +106,7 @@ unqueued-none items still f payload (ReadLog10 d) none = refl
 unqueued-none items still f payload Flush none = refl
 unqueued-none items still f payload (SetFeatures feature) none = refl
 unqueued-none items still f payload (ReadLog page dma) none = refl
+unqueued-none items still f payload (Trim blocks) none = absurd (true-false none.trims_none)
 unqueued-none items still f payload (Control control) none = refl
 
 queued-none : (h : RegH2d) (tag : ℕ) (c : Command) (b : Bool) (v : Verdict) → is_write (cond b (queued_by h tag c v) (fails_queue (Some tag) not_found h None (Some BeyondDrive))).deed ≡ false
@@ -143,6 +147,7 @@ unqueued-same f m payload (ReadLog page dma) = refl
 unqueued-same f m payload (ReadPio l k) = refl
 unqueued-same f m payload (WritePio l k) = refl
 unqueued-same f m payload (Verify l k) = refl
+unqueued-same f m payload (Trim blocks) = refl
 unqueued-same f m payload (Control control) = refl
 
 known-same : (f : Facts) (m : ℕ → List ℕ) (r : RegH2d) (payload : List ℕ) (x : Result (Command × Option ℕ) CommandError) → known (with_sectors f m) r payload x ≡ known f r payload x
@@ -169,8 +174,8 @@ stack-same f m true c com_id room = refl
 stack-same f m false c com_id room = certificates-same f m (asks_certificates f.config.profile c) com_id room
 
 block-same : (f : Facts) (m : ℕ → List ℕ) (c : Command) → ReachesNone c None → block_of tcg (with_sectors f m) c ≡ block_of tcg f c
-block-same f m (ReadDma l n) none = absurd (none Read l n read_dma)
-block-same f m (ReadPio l n) none = absurd (none Read l n read_pio)
+block-same f m (ReadDma l n) none = absurd (none.reached Read l n read_dma)
+block-same f m (ReadPio l n) none = absurd (none.reached Read l n read_pio)
 block-same f m (Send p c k d) none = refl
 block-same f m (ReadQueued l k) none = refl
 block-same f m (WriteQueued l k) none = refl
@@ -185,6 +190,7 @@ block-same f m (SetFeatures feature) none = refl
 block-same f m (ReadLog page dma) none = refl
 block-same f m (WritePio l k) none = refl
 block-same f m (Verify l k) none = refl
+block-same f m (Trim blocks) none = refl
 block-same f m (Control control) none = refl
 
 read-same : (f : Facts) (m : ℕ → List ℕ) (c : Command) (tag : Option ℕ) → ReachesNone c tag → data_read_of tcg (with_sectors f m) (Ok (c, tag)) ≡ data_read_of tcg f (Ok (c, tag))

@@ -7,7 +7,7 @@ use Rattle.fis.specs.declared.h2d.RegH2d.{RegH2d}
 use Rattle.locking.specs.declared.range.Op.TheVariants.{Read, Write}
 use Rattle.trusted_cmds.specs.Commands.{is_queued, tag_of, sector_size}
 use Rattle.trusted_cmds.specs.declared.command.Command.{Command}
-use Rattle.trusted_cmds.specs.declared.command.Command.TheVariants.{ReadQueued, WriteQueued, ReadDma, WriteDma, Send, Receive, Identify, ReadLog10, Flush, SetFeatures, ReadLog, ReadPio, WritePio, Verify, Control}
+use Rattle.trusted_cmds.specs.declared.command.Command.TheVariants.{ReadQueued, WriteQueued, ReadDma, WriteDma, Send, Receive, Identify, ReadLog10, Flush, SetFeatures, ReadLog, ReadPio, WritePio, Verify, Trim, Control}
 use Rattle.trusted_cmds.specs.declared.command.CommandError.{CommandError}
 use Rattle.locking.specs.declared.ranges.Verdict.{Verdict}
 use Rattle.locking.specs.declared.ranges.Verdict.TheVariants.{Serve, Shadow, Denied}
@@ -22,13 +22,14 @@ use Rattle.history.specs.Looked.{IsLookedAtBy}
 use Rattle.history.specs.DenialLaws.{Reaches, write_dma, write_pio}
 use Rattle.history.specs.TransferLaws.{IsPermitted, is_denied, Writes, WriteLaw}
 use Rattle.history.proofs.TransferProofs.{verdict_law}
+use Rattle.history.proofs.TrimProofs.{trimmed-has}
+use Rattle.trusted_cmds.specs.Trims.{extents_in}
 use Rattle.sp_cells.specs.Resets.{programmatic}
 use Rattle.audit.specs.declared.rules.rule.Rule.TheVariants.{NoCommand, Unreadable, Mixed, BeyondDrive}
 use Rattle.sessions.specs.Deeds.{StackTold}
 
 abbrev is_write : Deed → Bool
 is_write (Wrote lba bytes) = true
-is_write (Trimmed extents) = true
 is_write _ = false
 
 false-true : false ≡ true → ⊥
@@ -95,6 +96,8 @@ unqueued-is items still f act lba bytes (ReadLog page dma) looked g = absurd (no
 unqueued-is items still f act lba bytes (ReadPio l n) looked g = absurd (not-write (none-if (on_drive f l n) (unqueued_by Nothing (verdict_on f Read l n)) (fails not_found None (Some BeyondDrive)) (unqueued_by-none Nothing (verdict_on f Read l n) refl) refl) g)
 unqueued-is items still f act lba bytes (WritePio l n) looked g = served-is items f act l n lba bytes (WritePio l n) write_pio looked (on_drive f l n) (verdict_on f Write l n) refl refl g
 unqueued-is items still f act lba bytes (Verify l n) looked g = absurd (not-write (none-if (on_drive f l n) (unqueued_by Nothing (verdict_on f Read l n)) (fails not_found None (Some BeyondDrive)) (unqueued_by-none Nothing (verdict_on f Read l n) refl) refl) g)
+unqueued-is items still f act lba bytes (Trim blocks) looked g =
+    absurd (not-write (trimmed-has (λ e. is_write e.deed ≡ false) f (extents_in looked.payload) refl (λ why. refl) refl) g)
 unqueued-is items still f act lba bytes (Control control) looked g = absurd (not-write refl g)
 
 queued-none : (h : RegH2d) (tag : ℕ) (c : Command) (b : Bool) (v : Verdict) → is_write (cond b (queued_by h tag c v) (fails_queue (Some tag) not_found h None (Some BeyondDrive))).deed ≡ false

@@ -156,6 +156,7 @@ more-write (SetFeatures feature) count w = absurd (none-some w)
 more-write (ReadLog page dma) count w = absurd (none-some w)
 more-write (ReadPio lba n) count w = absurd (none-some w)
 more-write (Verify lba n) count w = absurd (none-some w)
+more-write (Trim blocks) count w = absurd (none-some w)
 more-write (Control control) count w = absurd (none-some w)
 
 opal-size : (h : RegH2d) (c : Command) (count : ℕ) → OpalReads h c None → written c ≡ Some count → payload_length_in Opal h ≡ 512 * count

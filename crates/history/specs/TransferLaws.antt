@@ -1,6 +1,7 @@
 -- Transfers, over every list of acts and whatever quiet items do: the verdict by sectors, what is
 -- held, and what comes to the policy.
 use Rattle.std.specs.Prelude.{◌≡◌, ◌⊎◌, ◌↔◌, ℕ, ◌+◌, ◌≤◌, ◌<◌, Bool, true, false, List, ◌∷◌, ◌++◌, Option, Some, None}
+use Rattle.std.specs.List.{All}
 use Rattle.locking.specs.Range.{RangeRows, row_at, is_shadowed}
 use Rattle.locking.specs.Verdict.{AreOpen, ArePermitted, AreShadowed, IsLeastDenied, why_of, shadow_why, verdict_of}
 use Rattle.locking.specs.declared.range.Op.{Op}
@@ -11,7 +12,10 @@ use Rattle.history.specs.Opening.{Origin}
 use Rattle.trusted_cmds.specs.declared.command.Command.{Command}
 use Rattle.locking.specs.declared.ranges.Verdict.{Verdict}
 use Rattle.locking.specs.declared.ranges.Verdict.TheVariants.{Serve, Shadow, Denied}
-use Rattle.history.specs.Events.{HeldCommand, Deed, Wrote}
+use Rattle.trusted_cmds.specs.declared.command.Command.TheVariants.{Trim}
+use Rattle.trusted_cmds.specs.declared.trim.Extent.{Extent}
+use Rattle.trusted_cmds.specs.Trims.{extents_in}
+use Rattle.history.specs.Events.{HeldCommand, Deed, Nothing, Wrote, Trimmed, Event}
 use Rattle.shadow_mbr.specs.Stored.{zeros}
 use Rattle.history.specs.Readers.{held, writing}
 use Rattle.history.specs.Facts.{Facts, facts}
@@ -125,9 +129,15 @@ WriteLaw =
     (items : Items) → IsQuiet items → (f : Facts) (act : Act) (lba : ℕ) (bytes : List ℕ)
     → (event_in items f act).deed ≡ Wrote lba bytes → Writes items f act lba bytes
 
+-- A TRIM reaches the sectors that its payload names.
+abbrev pub trims : Command → Bool
+trims (Trim blocks) = true
+trims _ = false
+
 -- A command, with its tag, that reaches no data: no sectors of media, nor of the shadow in their place.
-abbrev pub ReachesNone : Command → Option ℕ → Type 0
-ReachesNone command tag = (op : Op) (lba count : ℕ) → Reaches command tag op lba count → ⊥
+pub record ReachesNone (command : Command) (tag : Option ℕ) : Type 0 where
+  pub reached : (op : Op) (lba count : ℕ) → Reaches command tag op lba count → ⊥
+  pub trims_none : trims command ≡ false
 
 -- No bytes are written to media: a sector is as it was, or zeros, where a method erased it.
 pub record LeavesMedia (deed : Deed) : Type 0 where
@@ -164,3 +174,21 @@ UngivenLaw =
 
 abbrev pub UnreachedLaw : Type 0
 UnreachedLaw = UnwrittenLaw × UngivenLaw
+
+-- Each of the extents is on the drive, and may be written.
+abbrev pub AreTrimmable : Facts → List Extent → Type 0
+AreTrimmable f extents =
+    All (λ (extent : Extent). (on_drive f extent.lba extent.count ≡ true)
+    × IsPermitted (ranges_in_force f) Write extent.lba extent.count) extents
+
+-- A TRIM is done exactly where all that it names may be written; then all of it is trimmed, and else nothing changes.
+pub record TrimsAll (f : Facts) (event : Event) (extents : List Extent) : Type 0 where
+  pub done : (event.failed ≡ None) ↔ AreTrimmable f extents
+  pub whole : event.failed ≡ None → event.deed ≡ Trimmed extents
+  pub none : (error : ℕ) → event.failed ≡ Some error → event.deed ≡ Nothing
+
+abbrev pub TrimLaw : Type 0
+TrimLaw =
+    (items : Items) (f : Facts) (act : Act) (blocks : ℕ)
+    → (looked : IsLookedAtBy items f act (Trim blocks) None)
+    → TrimsAll f (event_in items f act) (extents_in looked.payload)

@@ -23,6 +23,8 @@ use Rattle.history.specs.Readers.{holding, held, failing, failure}
 use Rattle.history.specs.Items.{Items}
 use Rattle.history.specs.Quiet.{is_quiet}
 use Rattle.history.proofs.QuietProofs.{tcg_quiet}
+use Rattle.history.proofs.TrimProofs.{trimmed-has}
+use Rattle.trusted_cmds.specs.Trims.{extents_in}
 use Rattle.history.specs.Facts.{Facts, facts}
 use Rattle.history.specs.Decisions.{not_found, aborted, fails, refuses, fails_queue, on_drive, verdict_on, holds, queued_by, admitted, unqueued_by, is_trusted, is_session_com_id, discovery_com_id, received, is_busy, resets, unqueued_of, known_of, commanded_of, while_failed, is_received, unreceived, asks_stack, receive_other}
 use Rattle.history.specs.Tcg.{data_read, command_read, tcg}
@@ -362,6 +364,8 @@ unqueued-quiet items still f payload (ReadPio lba count) = transfer-quiet f Noth
 unqueued-quiet items still f payload (WritePio lba count) =
     transfer-quiet f (Wrote lba payload) Write lba count refl
 unqueued-quiet items still f payload (Verify lba count) = transfer-quiet f Nothing Read lba count refl
+unqueued-quiet items still f payload (Trim blocks) =
+    trimmed-has (λ e. is_of_queue e.deed ≡ false) f (extents_in payload) refl (λ why. refl) refl
 unqueued-quiet items still f payload (Control control) = refl
 unqueued-quiet items still f payload (ReadQueued lba count) = refl
 unqueued-quiet items still f payload (WriteQueued lba count) = refl

@@ -10,7 +10,8 @@ use Rattle.trusted_cmds.specs.declared.log_pages.LogPages.{LogPages}
 use Rattle.trusted_cmds.specs.declared.log_pages.LogPages.TheVariants.{Directory, IdentifyData}
 use Rattle.std.proofs.Common.{◌≡◌, ◌∙◌, ℕ, zero, suc, ◌+◌, ◌-◌, ◌*◌, ◌/◌, ◌≤◌, ◌<◌, ◌&&◌, nat_le, nat_lt, Bool, true, false, List, [], ◌∷◌, ◌++◌, length, replicate, if◌then◌else◌, Option, Some, None, refl, ap, arith}
 use Rattle.std.specs.Prelude.{take, drop, unwrap_or}
-use Rattle.std.specs.List.{flat_map}
+use Rattle.std.specs.List.{flat_map, list_any}
+use Rattle.trusted_cmds.specs.Trims.{has_sector}
 use Rattle.std.proofs.lemmas.List.{length-take, length-take-le, length-drop, length-append, length-replicate}
 use Rattle.std.proofs.lemmas.Bool.Decides.{nat_tests}
 use Rattle.device_data.specs.ErrorLog.{sized, error_log, page_head}
@@ -27,7 +28,7 @@ use Rattle.trusted_cmds.specs.declared.command.Command.TheVariants.{ReadQueued, 
 use Rattle.locking.specs.declared.range.Op.TheVariants.{Read}
 use Rattle.locking.specs.declared.ranges.Verdict.{Verdict}
 use Rattle.locking.specs.declared.ranges.Verdict.TheVariants.{Serve, Shadow, Denied}
-use Rattle.history.specs.Events.{CompletedWrite, Deed, InSession, OfQueue, Wrote, Event, or_else, latest}
+use Rattle.history.specs.Events.{CompletedWrite, Deed, InSession, OfQueue, Wrote, Trimmed, Event, or_else, latest}
 use Rattle.sessions.specs.Deeds.{erased_by}
 use Rattle.shadow_mbr.specs.Erasure.{is_erased}
 use Rattle.history.specs.Readers.{part_of, writing, sector}
@@ -75,6 +76,7 @@ erasing-is false = tt
 writing-is : (place : ℕ) (d : Deed) → IsSector (writing place d)
 writing-is place (OfQueue (CompletedWrite tag lba bytes)) = part-is place lba bytes
 writing-is place (Wrote lba bytes) = part-is place lba bytes
+writing-is place (Trimmed extents) = erasing-is (list_any (has_sector place) extents)
 writing-is place (InSession deed response) = erasing-is (is_erased (erased_by deed) place)
 writing-is place _ = tt
 

@@ -41,6 +41,7 @@ is_of_request (commands.SetFeatures feature) = false
 is_of_request (commands.ReadPio lba count) = false
 is_of_request (commands.WritePio lba count) = false
 is_of_request (commands.Verify lba count) = false
+is_of_request (commands.Trim blocks) = false
 is_of_request (commands.Control control) = false
 is_of_request _ = true
 

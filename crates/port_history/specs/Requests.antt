@@ -68,6 +68,7 @@ abbrev pub to_device : Command → Bool
 to_device (commands.WriteQueued lba count) = true
 to_device (commands.WriteDma lba count) = true
 to_device (commands.WritePio lba count) = true
+to_device (commands.Trim blocks) = true
 to_device (commands.Send protocol com_id blocks dma) = true
 to_device _ = false
 
@@ -78,6 +79,7 @@ blocks_moved (commands.ReadDma lba count) = count
 blocks_moved (commands.WriteDma lba count) = count
 blocks_moved (commands.ReadPio lba count) = count
 blocks_moved (commands.WritePio lba count) = count
+blocks_moved (commands.Trim blocks) = blocks
 blocks_moved (commands.Send protocol com_id blocks dma) = blocks
 blocks_moved (commands.Receive protocol com_id blocks dma) = blocks
 blocks_moved commands.Identify = 1
