@@ -8,7 +8,7 @@ use Rattle.hba_regs.specs.Registers.{register_at, has_bits, run_if, start_bit, r
 use Rattle.hba_regs.specs.AccessTypes.{StaysUnless, register_offset}
 use Rattle.hba.specs.declared.registers.Registers.{Registers}
 use Rattle.hba.specs.Registers.{port_at, port_word, port_word_of, port_written, port_written_of, kept, optioned, overridden, stopped_if, lost_if, found_if, goes_down, comes_up, generic_word, generic_written, after_hba_reset, noted, asks, reset_bit, enable_bit, ahci_bit, override_bit, packet_bit, light_bit, control_bits, capabilities, version}
-use Rattle.hba.specs.AccessTypes.{reaches_register, reaches_of, resets_hba, UnreachedLaw}
+use Rattle.hba.specs.AccessTypes.{reaches_register, reaches_of, resets_hba, UnreachedRegistersLaw}
 
 -- A word of the port looks at no bit of GHC and IS.
 port_as : (regs : Registers) (enables raises : Bool) (register : Option Register)
@@ -227,5 +227,5 @@ by_places regs value offset at false true s =
 by_places regs value offset at false false s =
     from_generic regs value offset at (register_at (offset - port_at)) (register_at (at - port_at)) s
 
-pub others_law : UnreachedLaw
+pub others_law : UnreachedRegistersLaw
 others_law regs offset value at s = by_places regs value offset at (nat_le port_at offset) (nat_le port_at at) s

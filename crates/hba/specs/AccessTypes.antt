@@ -115,8 +115,8 @@ reaches_at offset at =
     || not (nat_le port_at at) && (at == 0x08 || offset == at)
 
 -- What a write does not reach stays.
-abbrev pub UnreachedLaw : Type 0
-UnreachedLaw =
+abbrev pub UnreachedRegistersLaw : Type 0
+UnreachedRegistersLaw =
     (regs : Registers) (offset value at : ℕ) → resets_hba offset value ≡ false
     → StaysUnless (reaches_at offset at) (word_at regs at)
     (word_at (written_at regs offset value) at)

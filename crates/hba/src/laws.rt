@@ -1,6 +1,6 @@
 //! What follows from the definitions alone.
 
-ghost use Rattle.hba.specs.AccessTypes.{RowsLaw, generic_rows, place_rows, command_rows, state_rows, UnreachedLaw, FollowedLaw, WrittenStartLaw};
+ghost use Rattle.hba.specs.AccessTypes.{RowsLaw, generic_rows, place_rows, command_rows, state_rows, UnreachedRegistersLaw, FollowedLaw, WrittenStartLaw};
 ghost use Rattle.hba.specs.Blocks.{BlocksLaw, read_setup, write_setup};
 ghost use Rattle.hba.specs.BitLaws.{RunningLaw, IssuedLaw, QueuedLaw, RaisedLaw, ErrorsLaw, ChangesLaw, SignatureLaw};
 ghost use Rattle.hba.specs.Laws.{HostFailureLaw, HostDenialLaw, ActiveLaw, CurrentLaw};
@@ -81,7 +81,7 @@ pub fn laws_of_access()
     ensures places { RowsLaw place_rows }
     ensures command { RowsLaw command_rows }
     ensures state { RowsLaw state_rows }
-    ensures unreached { UnreachedLaw }
+    ensures unreached { UnreachedRegistersLaw }
     ensures follows { FollowedLaw }
     ensures start { WrittenStartLaw }
     ensures own { OwnBitsLaw }
