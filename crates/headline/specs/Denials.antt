@@ -6,7 +6,7 @@ use Rattle.audit.specs.declared.reason.Why.{Why}
 use Rattle.tcg_calls.specs.Asks.{uid_of}
 use Rattle.methods.specs.Laws.{IsAmong, IsDeniedBy}
 use Rattle.history.specs.Decisions.{ranges_in_force}
-use Rattle.history.specs.DenialLaws.{TransferDenied, MethodDenied, AttemptDenied, StartDenied}
+use Rattle.history.specs.DenialLaws.{TransferDenied, MethodDenied, AttemptDenied, StartDenied, TrimDenied}
 use Rattle.history.specs.Tcg.{tcg}
 use Rattle.history.specs.Facts.{Facts, standing}
 use Rattle.history.specs.History.{Act}
@@ -31,12 +31,12 @@ pub record IsMethodDenied (f : Facts) (act : Act) (why : Why) : Type 0 where
   pub by : MethodDenied f act why
   pub names : IsDeniedBy (standing f by.session) (uid_of by.object) (uid_of by.method) by.ask why
 
--- What denied an act: the policy, the access entries, or a failed attempt, which is named with its
--- authority and how it failed.
+-- What denied an act: the policy, the access entries, a failed attempt, which is named with its
+-- authority and how it failed, or the policy of a TRIM.
 abbrev pub IsDeniedAs : Facts → Act → Why → Type 0
 IsDeniedAs f act why =
     IsTransferDenied f act why ⊎ IsMethodDenied f act why ⊎ AttemptDenied f act why
-    ⊎ StartDenied f act why
+    ⊎ StartDenied f act why ⊎ TrimDenied f act why
 
 -- A step at which the drive denied the command that a client put.
 pub record IsDeniedStep (o : Origin) (before : List Step) (step : Step) (client : ℕ)

@@ -22,7 +22,7 @@ use Rattle.methods.specs.Calls.{judged_with, outcome_of, outcome_in}
 use Rattle.methods.specs.Judgement.{asked, does}
 use Rattle.methods.specs.Laws.{IsAmong, IsGranted, takes_effect}
 use Rattle.history.specs.Audit.{ActAuditLaw, ClientAct, audit_of_acts, event_of}
-use Rattle.history.specs.DenialLaws.{DenialLaw, TransferDenied, MethodDenied, AttemptDenied, StartDenied}
+use Rattle.history.specs.DenialLaws.{DenialLaw, TransferDenied, MethodDenied, AttemptDenied, StartDenied, TrimDenied}
 use Rattle.history.specs.Events.{Event, Response, InSession, Left, WasReset, did}
 use Rattle.history.specs.Facts.{Facts, facts, standing}
 use Rattle.history.specs.History.{Act, event_by, log}
@@ -143,10 +143,11 @@ attempt_has_reason law f act why denied = (law f act why).1 (inr (inr (inl denie
 
 start_has_reason : DenialLaw → (f : Facts) (act : Act) (why : Why) → StartDenied f act why
     → (event_by f act).denied ≡ Some why
-start_has_reason law f act why denied = (law f act why).1 (inr (inr (inr denied)))
+start_has_reason law f act why denied = (law f act why).1 (inr (inr (inr (inl denied))))
 
 reason_is_of_one : DenialLaw → (f : Facts) (act : Act) (why : Why) → (event_by f act).denied ≡ Some why
     → TransferDenied f act why ⊎ MethodDenied f act why ⊎ AttemptDenied f act why ⊎ StartDenied f act why
+    ⊎ TrimDenied f act why
 reason_is_of_one law f act why is = (law f act why).0 is
 
 -- `lines`: without acts there is no line; a line is of a denied act of the list, and each denied act has one.

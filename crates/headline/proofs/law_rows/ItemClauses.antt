@@ -189,7 +189,10 @@ flush_reaches c t op lba count (write_pio {lba = x} {count = y}) is = cc
 flush_reaches c t op lba count (verify {lba = x} {count = y}) is = cc
 
 flush_apart : ReachesNone Flush None
-flush_apart op lba count reaches = flush_reaches Flush None op lba count reaches refl
+flush_apart = record {
+  reached = λ op lba count reaches. flush_reaches Flush None op lba count reaches refl;
+  trims_none = refl;
+}
 
 flush_writes_none : UnreachedLaw → (items : Items) → IsQuiet items → (f : Facts) (act : Act) (lba : ℕ)
     (bytes : List ℕ) → IsLookedAtBy items f act Flush None
