@@ -7,15 +7,14 @@ use Rattle.fis.specs.declared.h2d.RegH2d.{RegH2d}
 use Rattle.locking.specs.declared.range.Op.{Op}
 use Rattle.locking.specs.declared.range.Op.TheVariants.{Read, Write}
 use Rattle.trusted_cmds.specs.declared.command.Command.{Command}
-use Rattle.trusted_cmds.specs.declared.command.Command.TheVariants.{ReadQueued, WriteQueued, ReadDma, WriteDma, Flush, SetFeatures, ReadLog, ReadPio, WritePio, Verify}
+use Rattle.trusted_cmds.specs.declared.command.Command.TheVariants.{ReadQueued, WriteQueued, ReadDma, WriteDma, Flush, SetFeatures, ReadLog, ReadPio, Verify}
 use Rattle.trusted_cmds.specs.declared.command.CommandError.{CommandError}
 use Rattle.trusted_cmds.specs.declared.feature.Feature.{Feature}
 use Rattle.trusted_cmds.specs.declared.log_pages.LogPages.{LogPages}
 use Rattle.trusted_cmds.specs.Commands.{reading, fault_of, read_unless, command_without_sectors, read_queued, write_queued, read_dma, write_dma, is_send, is_receive, is_log_read, identify_device, read_log_dma, set_features, has_lba_bit, sectors, blocks, sector_size, payload_length, short_lba, short_sectors}
 use Rattle.trusted_cmds.specs.Profiles.{reading_in, read_or, beside, payload_length_in, field_payload_length, short_read_dma, short_write_dma, short_flush_cache, is_short_transfer, short_transfer, beside_without_sectors, feature_named, pages_named}
 use Rattle.trusted_cmds.proofs.Sizes.{OpalReads, as_field, by_more, opal-reads, more-size, size_with}
-use Rattle.history.specs.DenialLaws.{write_dma as reaches_write_dma, write_pio as reaches_write_pio}
-use Rattle.history.proofs.WriteSizes.{write-size}
+use Rattle.history.proofs.WriteSizes.{write-size, pio-write-size}
 use Rattle.drive.specs.Transfer.{by_op, unqueued_command, payload_size_of, CanGo}
 use Rattle.drive.specs.declared.transfer.Transfer.{Transfer}
 use Rattle.drive.specs.declared.transfer.Way.{Way}
@@ -151,9 +150,9 @@ sized : (p : Profile) (h : RegH2d) (way : Way) (op : Op) (lba count : ℕ) → C
     → reading_in p h ≡ Ok (unqueued_command way (record { op = op; lba = lba; count = count }), None)
     → payload_length_in p h ≡ by_op op 0 (sector_size * count)
 sized p h ways.Dma Read lba count goes g = read-size p h (ReadDma lba count) refl refl g
-sized p h ways.Dma Write lba count goes g = write-size p h (WriteDma lba count) lba count reaches_write_dma g
+sized p h ways.Dma Write lba count goes g = write-size p h lba count g
 sized p h ways.Pio Read lba count goes g = read-size p h (ReadPio lba count) refl refl g
-sized p h ways.Pio Write lba count goes g = write-size p h (WritePio lba count) lba count reaches_write_pio g
+sized p h ways.Pio Write lba count goes g = pio-write-size p h lba count g
 sized p h ways.Verify Read lba count goes g = read-size p h (Verify lba count) refl refl g
 sized p h ways.Verify Write lba count goes g = absurd (no-write goes)
 
