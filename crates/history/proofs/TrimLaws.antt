@@ -1,5 +1,6 @@
 -- A TRIM is done exactly where all that it names may be written.
-use Rattle.std.proofs.Common.{◌≡◌, ◌∙◌, ℕ, ◌+◌, ◌&&◌, Bool, true, false, List, [], ◌∷◌, Option, Some, None, refl, sym, ap, subst, cond}
+use Rattle.std.proofs.Common.{◌≡◌, ◌∙◌, ℕ, ◌+◌, ◌&&◌, Bool, true, false, List, [], ◌∷◌, Option, Some, None, refl, sym, ap, subst, cond, arith}
+use Rattle.std.proofs.lemmas.List.Elements.{All-head, All-tail, All-cons}
 use Rattle.std.specs.Prelude.{nat_le}
 use Rattle.std.specs.List.{All, list_all}
 use Rattle.audit.specs.declared.reason.Why.{Why}
@@ -48,22 +49,27 @@ MayTrim sectors ranges extent = (nat_le (extent.lba + extent.count) sectors ≡ 
 
 all-may : (sectors : ℕ) (ranges : RangeRows) (extents : List Extent) → are_on_drive sectors extents ≡ true → first_denial ranges extents ≡ None
     → All (MayTrim sectors ranges) extents
-all-may sectors ranges [] on free = tt
+all-may sectors ranges [] on free = λ k d lt. absurd (omega arith)
 all-may sectors ranges (extent ∷ extents) on free =
     let here = both (nat_le (extent.lba + extent.count) sectors) (are_on_drive sectors extents) on in
     let served = passed (verdict_of ranges Write extent.lba extent.count) (first_denial ranges extents) free in
-    ((here.0, (verdict_law ranges Write extent.lba extent.count).served.0 served.0), all-may sectors ranges extents here.1 served.1)
+    All-cons (MayTrim sectors ranges) extent extents
+    (here.0, (verdict_law ranges Write extent.lba extent.count).served.0 served.0)
+    (all-may sectors ranges extents here.1 served.1)
 
 all-on : (sectors : ℕ) (ranges : RangeRows) (extents : List Extent) → All (MayTrim sectors ranges) extents → are_on_drive sectors extents ≡ true
 all-on sectors ranges [] may = refl
 all-on sectors ranges (extent ∷ extents) may =
-    joined (nat_le (extent.lba + extent.count) sectors) (are_on_drive sectors extents) may.0.0 (all-on sectors ranges extents may.1)
+    joined (nat_le (extent.lba + extent.count) sectors) (are_on_drive sectors extents)
+    (All-head (MayTrim sectors ranges) extent extents may).0
+    (all-on sectors ranges extents (All-tail (MayTrim sectors ranges) extent extents may))
 
 all-free : (sectors : ℕ) (ranges : RangeRows) (extents : List Extent) → All (MayTrim sectors ranges) extents → first_denial ranges extents ≡ None
 all-free sectors ranges [] may = refl
 all-free sectors ranges (extent ∷ extents) may =
     passes (verdict_of ranges Write extent.lba extent.count) (first_denial ranges extents)
-    ((verdict_law ranges Write extent.lba extent.count).served.1 may.0.1) (all-free sectors ranges extents may.1)
+    ((verdict_law ranges Write extent.lba extent.count).served.1 (All-head (MayTrim sectors ranges) extent extents may).1)
+    (all-free sectors ranges extents (All-tail (MayTrim sectors ranges) extent extents may))
 
 trims-all : (f : Facts) (extents : List Extent) → TrimsAll f (trimmed f extents) extents
 trims-all f extents =
