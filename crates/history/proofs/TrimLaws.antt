@@ -15,7 +15,7 @@ use Rattle.trusted_cmds.specs.declared.trim.Extent.{Extent}
 use Rattle.trusted_cmds.specs.Trims.{extents_in}
 use Rattle.history.specs.Events.{Trimmed, Event, did, or_else}
 use Rattle.history.specs.Facts.{Facts}
-use Rattle.history.specs.Decisions.{aborted, not_found, fails, denial_by, are_on_drive, first_denial, trimmed_by, trimmed, ranges_in_force}
+use Rattle.history.specs.Decisions.{aborted, not_found, fails, denial_in, are_on_drive, first_denial, trimmed_by, trimmed, ranges_in_force}
 use Rattle.history.specs.TransferLaws.{IsPermitted, is_denied, AreTrimmable, TrimsAll, TrimLaw}
 use Rattle.history.proofs.MethodProofs.{looked_law}
 use Rattle.history.proofs.TransferProofs.{verdict_law}
@@ -34,12 +34,12 @@ joined : (a b : Bool) → a ≡ true → b ≡ true → (a && b) ≡ true
 joined true b ha hb = hb
 joined false b ha hb = absurd (true-false (sym ha))
 
-passed : (v : Verdict) (later : Option Why) → or_else (denial_by v) later ≡ None → (is_denied v ≡ false) × (later ≡ None)
+passed : (v : Verdict) (later : Option Why) → or_else (denial_in v) later ≡ None → (is_denied v ≡ false) × (later ≡ None)
 passed Serve later h = (refl, h)
 passed Shadow later h = (refl, h)
 passed (Denied why) later h = absurd (none-some (sym h))
 
-passes : (v : Verdict) (later : Option Why) → is_denied v ≡ false → later ≡ None → or_else (denial_by v) later ≡ None
+passes : (v : Verdict) (later : Option Why) → is_denied v ≡ false → later ≡ None → or_else (denial_in v) later ≡ None
 passes Serve later free h = h
 passes Shadow later free h = h
 passes (Denied why) later free h = absurd (true-false free)
@@ -49,6 +49,7 @@ MayTrim sectors ranges extent = (nat_le (extent.lba + extent.count) sectors ≡ 
 
 all-may : (sectors : ℕ) (ranges : RangeRows) (extents : List Extent) → are_on_drive sectors extents ≡ true → first_denial ranges extents ≡ None
     → All (MayTrim sectors ranges) extents
+unfolding verdict_of first_denial
 all-may sectors ranges [] on free = λ k d lt. absurd (omega arith)
 all-may sectors ranges (extent ∷ extents) on free =
     let here = both (nat_le (extent.lba + extent.count) sectors) (are_on_drive sectors extents) on in
@@ -65,6 +66,7 @@ all-on sectors ranges (extent ∷ extents) may =
     (all-on sectors ranges extents (All-tail (MayTrim sectors ranges) extent extents may))
 
 all-free : (sectors : ℕ) (ranges : RangeRows) (extents : List Extent) → All (MayTrim sectors ranges) extents → first_denial ranges extents ≡ None
+unfolding first_denial
 all-free sectors ranges [] may = refl
 all-free sectors ranges (extent ∷ extents) may =
     passes (verdict_of ranges Write extent.lba extent.count) (first_denial ranges extents)
