@@ -1,5 +1,6 @@
 -- A TRIM is done exactly where all that it names may be written.
-use Rattle.std.proofs.Common.{◌≡◌, ◌∙◌, ℕ, ◌+◌, ◌&&◌, Bool, true, false, List, [], ◌∷◌, Option, Some, None, refl, sym, ap, subst, cond}
+use Rattle.std.proofs.Common.{◌≡◌, ◌∙◌, ℕ, ◌+◌, ◌&&◌, Bool, true, false, List, [], ◌∷◌, Option, Some, None, refl, sym, ap, subst, cond, arith}
+use Rattle.std.proofs.lemmas.List.Elements.{All-head, All-tail, All-cons}
 use Rattle.std.specs.Prelude.{nat_le}
 use Rattle.std.specs.List.{All, list_all}
 use Rattle.audit.specs.declared.reason.Why.{Why}
@@ -14,7 +15,7 @@ use Rattle.trusted_cmds.specs.declared.trim.Extent.{Extent}
 use Rattle.trusted_cmds.specs.Trims.{extents_in}
 use Rattle.history.specs.Events.{Trimmed, Event, did, or_else}
 use Rattle.history.specs.Facts.{Facts}
-use Rattle.history.specs.Decisions.{aborted, not_found, fails, denial_by, are_on_drive, first_denial, trimmed_by, trimmed, ranges_in_force}
+use Rattle.history.specs.Decisions.{aborted, not_found, fails, denial_in, are_on_drive, first_denial, trimmed_by, trimmed, ranges_in_force}
 use Rattle.history.specs.TransferLaws.{IsPermitted, is_denied, AreTrimmable, TrimsAll, TrimLaw}
 use Rattle.history.proofs.MethodProofs.{looked_law}
 use Rattle.history.proofs.TransferProofs.{verdict_law}
@@ -33,12 +34,12 @@ joined : (a b : Bool) → a ≡ true → b ≡ true → (a && b) ≡ true
 joined true b ha hb = hb
 joined false b ha hb = absurd (true-false (sym ha))
 
-passed : (v : Verdict) (later : Option Why) → or_else (denial_by v) later ≡ None → (is_denied v ≡ false) × (later ≡ None)
+passed : (v : Verdict) (later : Option Why) → or_else (denial_in v) later ≡ None → (is_denied v ≡ false) × (later ≡ None)
 passed Serve later h = (refl, h)
 passed Shadow later h = (refl, h)
 passed (Denied why) later h = absurd (none-some (sym h))
 
-passes : (v : Verdict) (later : Option Why) → is_denied v ≡ false → later ≡ None → or_else (denial_by v) later ≡ None
+passes : (v : Verdict) (later : Option Why) → is_denied v ≡ false → later ≡ None → or_else (denial_in v) later ≡ None
 passes Serve later free h = h
 passes Shadow later free h = h
 passes (Denied why) later free h = absurd (true-false free)
@@ -48,22 +49,29 @@ MayTrim sectors ranges extent = (nat_le (extent.lba + extent.count) sectors ≡ 
 
 all-may : (sectors : ℕ) (ranges : RangeRows) (extents : List Extent) → are_on_drive sectors extents ≡ true → first_denial ranges extents ≡ None
     → All (MayTrim sectors ranges) extents
-all-may sectors ranges [] on free = tt
+unfolding verdict_of first_denial
+all-may sectors ranges [] on free = λ k d lt. absurd (omega arith)
 all-may sectors ranges (extent ∷ extents) on free =
     let here = both (nat_le (extent.lba + extent.count) sectors) (are_on_drive sectors extents) on in
     let served = passed (verdict_of ranges Write extent.lba extent.count) (first_denial ranges extents) free in
-    ((here.0, (verdict_law ranges Write extent.lba extent.count).served.0 served.0), all-may sectors ranges extents here.1 served.1)
+    All-cons (MayTrim sectors ranges) extent extents
+    (here.0, (verdict_law ranges Write extent.lba extent.count).served.0 served.0)
+    (all-may sectors ranges extents here.1 served.1)
 
 all-on : (sectors : ℕ) (ranges : RangeRows) (extents : List Extent) → All (MayTrim sectors ranges) extents → are_on_drive sectors extents ≡ true
 all-on sectors ranges [] may = refl
 all-on sectors ranges (extent ∷ extents) may =
-    joined (nat_le (extent.lba + extent.count) sectors) (are_on_drive sectors extents) may.0.0 (all-on sectors ranges extents may.1)
+    joined (nat_le (extent.lba + extent.count) sectors) (are_on_drive sectors extents)
+    (All-head (MayTrim sectors ranges) extent extents may).0
+    (all-on sectors ranges extents (All-tail (MayTrim sectors ranges) extent extents may))
 
 all-free : (sectors : ℕ) (ranges : RangeRows) (extents : List Extent) → All (MayTrim sectors ranges) extents → first_denial ranges extents ≡ None
+unfolding first_denial
 all-free sectors ranges [] may = refl
 all-free sectors ranges (extent ∷ extents) may =
     passes (verdict_of ranges Write extent.lba extent.count) (first_denial ranges extents)
-    ((verdict_law ranges Write extent.lba extent.count).served.1 may.0.1) (all-free sectors ranges extents may.1)
+    ((verdict_law ranges Write extent.lba extent.count).served.1 (All-head (MayTrim sectors ranges) extent extents may).1)
+    (all-free sectors ranges extents (All-tail (MayTrim sectors ranges) extent extents may))
 
 trims-all : (f : Facts) (extents : List Extent) → TrimsAll f (trimmed f extents) extents
 trims-all f extents =

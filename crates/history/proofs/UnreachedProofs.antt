@@ -43,7 +43,11 @@ true-false h = cc
 
 -- all others leave them
 leaves : (deed : Deed) → is_write deed ≡ false → LeavesMedia deed
-leaves deed none = record { unwritten = λ lba bytes is. true-false (sym (ap is_write is) ∙ none); left = λ place. left deed none place }
+leaves deed none = record {
+  unwritten = λ lba bytes is. true-false (sym (ap is_write is) ∙ none);
+  untrimmed = λ extents is. true-false (sym (ap is_write is) ∙ none);
+  left = λ place. left deed none place;
+}
   where
     erased : (b : Bool) → (◌≡◌ {A = Option (List ℕ)} (cond b (Some zeros) None) None) ⊎ (cond b (Some zeros) None ≡ Some zeros)
     erased true = inr refl

@@ -117,10 +117,10 @@ unqueued_transfer f deed op lba count =
 
 -- What a TRIM names is judged as writes are, each extent by itself; all of it is trimmed, or nothing (ACS-3, DATA SET
 -- MANAGEMENT; SIIS 1.05, commands of a locked range).
-abbrev pub denial_by : Verdict → Option Why
-denial_by Serve = None
-denial_by Shadow = None
-denial_by (Denied why) = Some why
+abbrev pub denial_in : Verdict → Option Why
+denial_in Serve = None
+denial_in Shadow = None
+denial_in (Denied why) = Some why
 
 abbrev pub are_on_drive : ℕ → List Extent → Bool
 are_on_drive sectors extents =
@@ -130,7 +130,7 @@ are_on_drive sectors extents =
 unfoldable pub first_denial : RangeRows → List Extent → Option Why
 first_denial ranges [] = None
 first_denial ranges (extent ∷ extents) =
-    or_else (denial_by (verdict_of ranges Write extent.lba extent.count))
+    or_else (denial_in (verdict_of ranges Write extent.lba extent.count))
     (first_denial ranges extents)
 
 abbrev pub trimmed_by : List Extent → Option Why → Event

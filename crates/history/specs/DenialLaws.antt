@@ -32,7 +32,8 @@ use Rattle.history.specs.History.{Act, event_by}
 use Rattle.history.specs.MethodLaws.{IsLookedAt, IsSent, IsCall}
 
 -- The commands by which data are reached, and which: so many sectors of media, or of the shadow, from one on, to be read or
--- written. A queued command has a tag. No other command reaches data (`UnreachedLaw`).
+-- written. A queued command has a tag. A TRIM reaches the sectors that its payload names (`TrimLaw`); no other command reaches
+-- data (`UnreachedLaw`).
 pub data Reaches : Command → Option ℕ → Op → ℕ → ℕ → Type 0 where
   read_queued : {lba count tag : ℕ} → Reaches (ReadQueued lba count) (Some tag) Read lba count
   write_queued : {lba count tag : ℕ} → Reaches (WriteQueued lba count) (Some tag) Write lba count

@@ -129,7 +129,7 @@ WriteLaw =
     (items : Items) → IsQuiet items → (f : Facts) (act : Act) (lba : ℕ) (bytes : List ℕ)
     → (event_in items f act).deed ≡ Wrote lba bytes → Writes items f act lba bytes
 
--- A TRIM reaches the sectors that its payload names.
+-- A TRIM has no sectors of its own, as those transfers have: it reaches those that its payload names.
 abbrev pub trims : Command → Bool
 trims (Trim blocks) = true
 trims _ = false
@@ -139,9 +139,10 @@ pub record ReachesNone (command : Command) (tag : Option ℕ) : Type 0 where
   pub reached : (op : Op) (lba count : ℕ) → Reaches command tag op lba count → ⊥
   pub trims_none : trims command ≡ false
 
--- No bytes are written to media: a sector is as it was, or zeros, where a method erased it.
+-- No bytes are written to media, and nothing is trimmed: a sector is as it was, or zeros, where a method erased it.
 pub record LeavesMedia (deed : Deed) : Type 0 where
   pub unwritten : (lba : ℕ) (bytes : List ℕ) → deed ≡ Wrote lba bytes → ⊥
+  pub untrimmed : (extents : List Extent) → deed ≡ Trimmed extents → ⊥
   pub left : (place : ℕ) → (writing place deed ≡ None) ⊎ (writing place deed ≡ Some zeros)
 
 -- Facts with other media.

@@ -40,12 +40,12 @@ fn extent_of(entry: u64) -> Extent
 }
 
 /// Appends the sectors of an entry, where it has some.
-fn append_extent(extents: &mut Vec<Extent>, entry: u64) -> Result<(), AllocError>
-    ensures { OnOk result (extents.new.items ≡ extents.old.items ++ some_sectors (extent_of entry)) }
+fn append_extent(into: &mut Vec<Extent>, entry: u64) -> Result<(), AllocError>
+    ensures { OnOk result (into.new.items ≡ into.old.items ++ some_sectors (extent_of entry)) }
 {
     let extent = extent_of(entry);
     if extent.count != 0 {
-        extents.push(extent)?;
+        into.push(extent)?;
     }
     Ok(())
 }
