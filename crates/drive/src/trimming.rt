@@ -89,6 +89,7 @@ impl Drive {
 
     /// Does a TRIM, and answers: the sectors that its payload names become zeros where all of them are on the drive and may be
     /// written, and else none of them does. Where memory is refused nothing is said.
+    #[tactic(auto, using(crate::proofs::Trims::extents_some))]
     pub(crate) fn trim(
         &mut self,
         h: &RegH2d,
@@ -143,6 +144,7 @@ impl Drive {
     }
 
     /// Makes zeros of the sectors of the extents. All memory is taken before any of them changes.
+    #[tactic(auto, using(crate::proofs::Trims::erased_is_trimmed))]
     fn wipe(&mut self, extents: &[Extent]) -> Result<(), AllocError>
         ensures tper { self.new.tper ≡ self.old.tper }
         ensures queue { self.new.queue ≡ self.old.queue }
