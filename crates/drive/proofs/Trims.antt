@@ -24,7 +24,7 @@ use Rattle.history.specs.Opening.{Origin}
 use Rattle.history.specs.Events.{Trimmed, Event, did, or_else}
 use Rattle.history.specs.Readers.{trimming}
 use Rattle.history.specs.Facts.{Facts, facts}
-use Rattle.history.specs.Decisions.{aborted, not_found, fails, are_on_drive, denial_by, first_denial, trimmed_by, trimmed}
+use Rattle.history.specs.Decisions.{aborted, not_found, fails, are_on_drive, denial_in, first_denial, trimmed_by, trimmed}
 use Rattle.history.specs.Tcg.{command_read}
 use Rattle.history.specs.Answers.{errored, ready, answer_fis}
 use Rattle.drive.specs.declared.answer.Accepted.{Accepted}
@@ -111,7 +111,7 @@ refused_by None = None
 refused_by (Some why) = Some (record { error = aborted; denied = Some why; rule = None })
 
 refuses-here : (v : Verdict) (later : Option Refused) (x : Option Why) → later ≡ refused_by x
-    → refused_or (by_verdict v) later ≡ refused_by (or_else (denial_by v) x)
+    → refused_or (by_verdict v) later ≡ refused_by (or_else (denial_in v) x)
 refuses-here Serve later x is = is
 refuses-here Shadow later x is = is
 refuses-here (Denied why) later x is = refl
