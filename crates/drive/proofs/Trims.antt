@@ -5,7 +5,6 @@ use Rattle.std.specs.List.{list_all, list_any}
 use Rattle.std.proofs.lemmas.Bool.Decides.{nat_tests}
 use Rattle.std.proofs.lemmas.List.Folds.{list_all-append}
 use Rattle.std.proofs.Math.Seq.{drop-cons}
-use Rattle.byteorder.specs.Endian.{little_number}
 use Rattle.fis.specs.declared.h2d.RegH2d.{RegH2d}
 use Rattle.audit.specs.declared.reason.Why.{Why}
 use Rattle.audit.specs.declared.rules.rule.Rule.TheVariants.{BeyondDrive}
@@ -19,7 +18,7 @@ use Rattle.shadow_mbr.specs.Stored.{sector_at, zeros}
 use Rattle.shadow_mbr.specs.declared.erasure.Erasure.{Erasure}
 use Rattle.trusted_cmds.specs.declared.command.Command.TheVariants.{Trim}
 use Rattle.trusted_cmds.specs.declared.trim.Extent.{Extent}
-use Rattle.trusted_cmds.specs.Trims.{entry_size, extent_of, some_sectors, extents_of, extents_in, has_sector}
+use Rattle.trusted_cmds.specs.Trims.{entry_size, some_sectors, extents_of, extents_in, has_sector}
 use Rattle.history.specs.Opening.{Origin}
 use Rattle.history.specs.Events.{Trimmed, Event, did, or_else}
 use Rattle.history.specs.Readers.{trimming}
@@ -47,13 +46,15 @@ joined : (a b : Bool) → a ≡ true → b ≡ true → (a && b) ≡ true
 joined true b ha hb = hb
 joined false b ha hb = absurd cc
 
+some-more : (extents : List Extent) (extent : Extent) → list_all has_some extents ≡ true → list_all has_some (extents ++ some_sectors extent) ≡ true
+some-more extents extent some =
+    list_all-append has_some extents (some_sectors extent)
+    ∙ joined (list_all has_some extents) (list_all has_some (some_sectors extent)) some (some-here extent (extent.count == 0) refl)
+
 some-of : (payload : List ℕ) (n : ℕ) → list_all has_some (extents_of payload n) ≡ true
 unfolding extents_of
 some-of payload zero = refl
-some-of payload (suc n) =
-    let here : Extent = extent_of (little_number entry_size (drop (entry_size * n) payload)) in
-    list_all-append has_some (extents_of payload n) (some_sectors here)
-    ∙ joined (list_all has_some (extents_of payload n)) (list_all has_some (some_sectors here)) (some-of payload n) (some-here here (here.count == 0) refl)
+some-of payload (suc n) = some-more (extents_of payload n) _ (some-of payload n)
 
 pub extents_some : (payload : List ℕ) → list_all has_some (extents_in payload) ≡ true
 extents_some payload = some-of payload (length payload / entry_size)
