@@ -39,6 +39,12 @@ returns-in_ok-bytes-in-Moves-clause-done c = λ o acts k.
     moves-done c.args.h.now c.args.self.now c.move_so.new.self o (log o acts) c.args.payload.now c.in-Moves.held c.in-Moves.way c.args.decision c.set_served.new.self c.in-Moves.is due m.tper m.queue m.settings m.media
     (record { status_is = e.status; error_is = e.error; held_is = e.held; fises_are = e.fises ∙ c.moved_form.ensures; bytes_are = e.bytes ∙ m.data (facts o (log o acts)); denied_is = e.denied ∙ c.none.ensures.denied; rule_is = e.rule ∙ c.none.ensures.rule }) k
 
+pub returns-in-Trims-clause-done : goal.returns-in-Trims-clause-done
+returns-in-Trims-clause-done c =
+    subst (λ (x : Decision). OnOk c.trim.result ((o : Origin) (acts : List Act) → Agrees c.args.self.now o acts
+    → IsDoneAndAnswered (facts o (log o acts)) c.args.h.now (decision_event (facts o (log o acts)) c.args.payload.now x) c.trim.new.self o (log o acts) c.trim.new.answer))
+    (sym c.in-Trims.is) c.trim.ensures.done
+
 pub returns-in_ok-bytes-in-Executes-clause-done : goal.returns-in_ok-bytes-in-Executes-clause-done
 returns-in_ok-bytes-in-Executes-clause-done c = λ o acts k.
     let e = c.set_served-in-Executes.ensures in
