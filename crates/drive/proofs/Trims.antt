@@ -1,6 +1,6 @@
 -- A TRIM: what the drive judges of its extents is what the history judges, and what is erased is what is trimmed.
-use Rattle.std.proofs.Common.{◌≡◌, ◌∙◌, ℕ, zero, suc, ◌+◌, ◌*◌, ◌/◌, ◌==◌, ◌&&◌, ◌||◌, Bool, true, false, List, [], ◌∷◌, ◌++◌, length, drop, Option, Some, None, Result, Ok, Err, refl, sym, ap, subst, cond, arith, get_or, if◌then◌else◌, ◌<◌}
-use Rattle.std.specs.Prelude.{map, nat_le, nat_lt, unwrap_or}
+use Rattle.std.proofs.Common.{◌≡◌, ◌∙◌, ℕ, zero, suc, ◌+◌, ◌/◌, ◌==◌, ◌&&◌, ◌||◌, Bool, true, false, List, [], ◌∷◌, ◌++◌, length, drop, Option, Some, None, Result, Ok, Err, refl, sym, ap, subst, cond, arith, get_or, if◌then◌else◌, ◌<◌}
+use Rattle.std.specs.Prelude.{map, nat_le, unwrap_or}
 use Rattle.std.specs.List.{list_all, list_any}
 use Rattle.std.proofs.lemmas.Bool.Decides.{nat_tests}
 use Rattle.std.proofs.lemmas.List.Folds.{list_all-append}
@@ -8,7 +8,6 @@ use Rattle.std.proofs.Math.Seq.{drop-cons}
 use Rattle.fis.specs.declared.h2d.RegH2d.{RegH2d}
 use Rattle.audit.specs.declared.reason.Why.{Why}
 use Rattle.audit.specs.declared.rules.rule.Rule.TheVariants.{BeyondDrive}
-use Rattle.locking.specs.Range.{RangeRows}
 use Rattle.locking.specs.Verdict.{verdict_of}
 use Rattle.locking.specs.declared.range.Op.TheVariants.{Write}
 use Rattle.locking.specs.declared.ranges.Verdict.{Verdict}
@@ -121,18 +120,11 @@ refuses-first : (d : DriveState) (extents : List Extent) → are_on_drive d.tper
     → first_refused d extents ≡ refused_by (first_denial (ranges_of d.tper) extents)
 unfolding first_refused first_denial
 refuses-first d [] on = refl
-refuses-first d (extent ∷ extents) on = by (nat_le (extent.lba + extent.count) d.tper.store.config.sectors) refl on
-  where
-    verdict : Verdict
-    verdict = verdict_of (ranges_of d.tper) Write extent.lba extent.count
-
-    by : (here : Bool) → nat_le (extent.lba + extent.count) d.tper.store.config.sectors ≡ here
-        → (here && are_on_drive d.tper.store.config.sectors extents) ≡ true
-        → first_refused d (extent ∷ extents) ≡ refused_by (first_denial (ranges_of d.tper) (extent ∷ extents))
-    by true is rest =
-        ap (λ (b : Bool). refused_or (cond b (by_verdict verdict) (Err (record { error = not_found; denied = None; rule = Some BeyondDrive }))) (first_refused d extents)) is
-        ∙ refuses-here verdict (first_refused d extents) (first_denial (ranges_of d.tper) extents) (refuses-first d extents rest)
-    by false is rest = absurd cc
+refuses-first d (extent ∷ extents) on =
+    let parts = both (nat_le (extent.lba + extent.count) d.tper.store.config.sectors) (are_on_drive d.tper.store.config.sectors extents) on in
+    let verdict : Verdict = verdict_of (ranges_of d.tper) Write extent.lba extent.count in
+    ap (λ (b : Bool). refused_or (cond b (by_verdict verdict) (Err (record { error = not_found; denied = None; rule = Some BeyondDrive }))) (first_refused d extents)) parts.0
+    ∙ refuses-here verdict (first_refused d extents) (first_denial (ranges_of d.tper) extents) (refuses-first d extents parts.1)
 
 -- what a refusal comes to, or none
 abbrev refused_event : List Extent → Option Refused → Event

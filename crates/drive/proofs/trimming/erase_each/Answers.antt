@@ -1,4 +1,4 @@
-use Rattle.std.proofs.Common.{◌∙◌, ℕ, List, sym}
+use Rattle.std.proofs.Common.{◌∙◌, List, sym}
 use Rattle.std.proofs.lemmas.List.{at_drop_all}
 use Rattle.shadow_mbr.specs.Stored.{sector_at}
 use Rattle.shadow_mbr.specs.declared.erasure.Erasure.{Erasure}
