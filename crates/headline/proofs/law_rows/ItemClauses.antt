@@ -27,7 +27,7 @@ use Rattle.history.specs.Opening.{Origin}
 use Rattle.history.specs.Quiet.{IsQuiet, ReadsTags, is_quiet}
 use Rattle.history.specs.Readers.{held}
 use Rattle.history.specs.Tcg.{tcg}
-use Rattle.history.specs.TransferLaws.{VerdictLaw, HeldLaw, TagLaw, ServiceLaw, WriteLaw, UnreachedLaw, TrimLaw, ReachesNone, AreTrimmable, with_sectors, IsPermitted, IsReason, is_denied}
+use Rattle.history.specs.TransferLaws.{VerdictLaw, HeldLaw, TagLaw, ServiceLaw, WriteLaw, UnreachedLaw, TrimLaw, ReachesNone, AreTrimmable, NamesExtent, with_sectors, IsPermitted, IsReason, is_denied}
 use Rattle.headline.proofs.law_rows.Lists.{not_both}
 
 -- `quiet`: no send writes sectors, takes a response or changes the queue.
@@ -245,3 +245,8 @@ failed_trims_none : TrimLaw → (items : Items) (f : Facts) (act : Act) (blocks 
     (looked : IsLookedAtBy items f act (Trim blocks) None) → (event_in items f act).failed ≡ Some error
     → (event_in items f act).deed ≡ Nothing
 failed_trims_none law items f act blocks error looked = (law items f act blocks looked).none error
+
+denied_for_an_extent : TrimLaw → (items : Items) (f : Facts) (act : Act) (blocks : ℕ) (why : Why)
+    (looked : IsLookedAtBy items f act (Trim blocks) None) → (event_in items f act).denied ≡ Some why
+    → NamesExtent (ranges_in_force f) (extents_in looked.payload) why
+denied_for_an_extent law items f act blocks why looked = (law items f act blocks looked).reason why
