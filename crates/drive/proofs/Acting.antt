@@ -379,7 +379,7 @@ failed-answer : (f : Facts) (h : RegH2d) (error : ℕ) (deed : Deed) (denied : O
 failed-answer f h error deed denied rule a free t =
     record { status = t.status_is; error = t.error_is; held = t.held_is ∙ sym free; fises = t.fises_are; bytes = t.bytes_are; denied = t.denied_is; rule = t.rule_is }
 
-served-answer : (f : Facts) (h : RegH2d) (ev : Event) (a : Accepted) (command : Command) → Succeeds ev → command_read f.config h ≡ Ok (command, None)
+pub served-answer : (f : Facts) (h : RegH2d) (ev : Event) (a : Accepted) (command : Command) → Succeeds ev → command_read f.config h ≡ Ok (command, None)
     → IsTold a ready 0 false (served_fises command) (data_of f command) ev.denied ev.rule → IsAnswer f h ev a
 served-answer f h ev a command s reads t = record {
   status = t.status_is ∙ rw s.0 refl;

@@ -9,6 +9,7 @@ use Rattle.device_data.specs.declared.log_page.Failure.{Failure}
 use Rattle.device_data.specs.declared.settings.Settings.{Settings}
 use Rattle.device_data.specs.Settings.{with_feature}
 use Rattle.trusted_cmds.specs.declared.feature.Feature.{Feature}
+use Rattle.trusted_cmds.specs.declared.trim.Extent.{Extent}
 use Rattle.shadow_mbr.specs.Stored.{sector_at, zeros}
 use Rattle.transactions.specs.Sights.{look_up, committed_sight}
 use Rattle.compacket.specs.Frames.{Frame, reading as frame_in}
@@ -23,7 +24,7 @@ use Rattle.history.specs.Decisions.{completed}
 use Rattle.history.specs.Tcg.{sent, sent_by, broken_of, unframed, unframed_in, framed, to_session, to_manager, in_session, item_in, breaks_off, broken_off, is_discarded, manager_event, answers, is_manager}
 use Rattle.history.specs.Opening.{Origin}
 use Rattle.history.specs.Events.{HeldCommand, Held as HeldDeed, QueueFailed, QueueMended, QueueEnded, Deed, Nothing, OfQueue, Wrote, Trimmed, Took, BlockedSid, Chose, WasReset, InSession, Event, did, or_else, latest, ignores}
-use Rattle.history.specs.Readers.{holding, in_force, failing, failure, writing, settings_then}
+use Rattle.history.specs.Readers.{holding, in_force, failing, failure, trimming, writing, settings_then}
 use Rattle.history.specs.Facts.{Facts, facts, session_named}
 use Rattle.history.specs.KeptStore.{ReadsStore}
 use Rattle.history.proofs.KeptStoreReads.{store_read_law}
@@ -209,6 +210,14 @@ tper-keeps d e o past ev its tper queue chosen media k =
 erase-here : (b : Bool) (before : List ℕ) → (if b then zeros else before) ≡ unwrap_or (if b then Some zeros else None) before
 erase-here true before = refl
 erase-here false before = refl
+
+-- sectors are trimmed
+pub trims-keeps : (d e : DriveState) (o : Origin) (past : List Event) (extents : List Extent) → e.tper ≡ d.tper → e.queue ≡ d.queue → e.settings ≡ d.settings
+    → ((s : ℕ) → sector_at e.media s ≡ unwrap_or (trimming s extents) (sector_at d.media s))
+    → KeepsDrive d o past → KeepsDrive e o (did (Trimmed extents) ∷ past)
+trims-keeps d e o past extents tper queue chosen media k =
+    tper-keeps d e o past (did (Trimmed extents)) (of_tper (λ tag. refl) refl (λ s. refl))
+    (spared d e o past (did (Trimmed extents)) tper refl k) queue chosen media k
 
 -- what is sent does nothing, or something in a session
 abbrev pub IsSendDeed : Deed → Type 0

@@ -13,20 +13,21 @@ use Rattle.locking.specs.declared.ranges.Verdict.{Verdict}
 use Rattle.locking.specs.declared.ranges.Verdict.TheVariants.{Serve, Shadow, Denied}
 use Rattle.transactions.specs.Sights.{look_up, committed_sight}
 use Rattle.trusted_cmds.specs.declared.command.Command.{Command}
-use Rattle.trusted_cmds.specs.declared.command.Command.TheVariants.{Send, Receive, Identify, ReadLog10, Flush, SetFeatures, ReadLog, Control}
+use Rattle.trusted_cmds.specs.declared.command.Command.TheVariants.{Send, Receive, Identify, ReadLog10, Flush, SetFeatures, ReadLog, Trim, Control}
 use Rattle.trusted_cmds.specs.Commands.{is_programmatic_reset, is_protocol_list}
 use Rattle.trusted_cmds.specs.BlockSid.{is_block_sid, block_asked}
+use Rattle.trusted_cmds.specs.Trims.{extents_in}
 use Rattle.sp_cells.specs.Resets.{programmatic}
 use Rattle.sessions.specs.Deeds.{StackTold}
 use Rattle.history.specs.Events.{Deed, Nothing, InSession, Silent, OfQueue, QueueFailed, QueueMended, Wrote, WasReset, BlockedSid, Chose, Event, did}
 use Rattle.history.specs.Facts.{Facts}
-use Rattle.history.specs.Decisions.{aborted, not_found, fails, holds, received, is_session_com_id, discovery_com_id, unreceived, asks_stack}
+use Rattle.history.specs.Decisions.{aborted, not_found, fails, holds, received, is_session_com_id, discovery_com_id, unreceived, asks_stack, trimmed}
 use Rattle.history.specs.Tcg.{sent, stack_sent, command_read, unsent, unqueued}
 use Rattle.tper.specs.Tper.{Tper}
 use Rattle.drive.specs.Transfer.{by_op, queued_command, unqueued_command, CanGo, verdict_held, is_on_drive, StandsOnDrive}
 use Rattle.drive.specs.State.{DriveState, kept_facts}
 use Rattle.drive.specs.declared.decision.Decision.{Decision}
-use Rattle.drive.specs.declared.decision.Decision.TheVariants.{Aborts, FailsQueue, Holds, Moves, Restarts, Blocks, AsksStack, Executes}
+use Rattle.drive.specs.declared.decision.Decision.TheVariants.{Aborts, FailsQueue, Holds, Moves, Trims, Restarts, Blocks, AsksStack, Executes}
 use Rattle.drive.specs.declared.decision.Cause.{Cause}
 use Rattle.drive.specs.declared.decision.Cause.TheVariants as causes
 use Rattle.drive.specs.declared.decision.Refusal.{Refusal}
@@ -128,6 +129,7 @@ decision_event f payload (FailsQueue failure cause) = record {
 decision_event f payload (Holds tag held) = holds tag (queued_command held.transfer)
     (verdict_held held)
 decision_event f payload (Moves held way) = did (transfer_deed held.transfer payload)
+decision_event f payload (Trims blocks) = trimmed f (extents_in payload)
 decision_event f payload (Restarts command) = did (WasReset programmatic)
 decision_event f payload (Blocks command) = did (BlockedSid (block_asked payload))
 decision_event f payload (AsksStack command) = asked_of_stack f payload command
@@ -176,6 +178,7 @@ IsDue d h (Aborts error cause) = Unit {0}
 IsDue d h (FailsQueue failure cause) = Unit {0}
 IsDue d h (Holds tag held) = IsHeld d h tag held
 IsDue d h (Moves held way) = IsMoved d h held way
+IsDue d h (Trims blocks) = command_read d.tper.store.config h ≡ Ok (Trim blocks, None)
 IsDue d h (Restarts command) =
     (command_read d.tper.store.config h ≡ Ok (command, None))
     × (is_programmatic_reset command ≡ true)

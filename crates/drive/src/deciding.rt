@@ -275,6 +275,7 @@ impl Drive {
             Command::Verify { lba, count } => {
                 self.unqueued_transfer(h, Way::Verify, Transfer::by(Op::Read, lba, count))
             }
+            Command::Trim { blocks } => Decision::Trims { blocks },
             Command::Send { .. } if self.resets(&command) => Decision::Restarts(command),
             Command::Send { .. } if self.blocks_sid(&command) => self.block(h, command),
             Command::Send { .. } | Command::Receive { .. } => self.trusted(h, command),

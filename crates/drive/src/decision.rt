@@ -38,6 +38,8 @@ pub enum Decision {
     Holds { tag: Tag, held: Held },
     /// An unqueued transfer moves its data, each in its way.
     Moves { held: Held, way: Way },
+    /// Sectors are trimmed: the blocks that come say which, and they are judged only then.
+    Trims { blocks: u16 },
     /// Another command that is not queued is executed.
     Executes(Command),
     /// The command resets the drive.
@@ -104,7 +106,7 @@ pub(crate) fn objection_to(cause: &Cause) -> Objection
 pub(crate) const ABORTED: u8 = 0x04;
 
 /// The error of a command whose sectors are not all on the drive (ACS-3, IDNF).
-const NOT_FOUND: u8 = 0x10;
+pub(crate) const NOT_FOUND: u8 = 0x10;
 
 /// Whether a transfer that is permitted reads the shadow, as [`policy`] says; none where it is refused. A refusal is
 /// large, and most transfers are permitted.

@@ -97,6 +97,7 @@ impl Drive {
                 answer.set_served(moved_form(way, &held.transfer), bytes, Objection::none());
                 Ok(())
             }
+            Decision::Trims { blocks } => self.trim(h, blocks, payload, answer),
             Decision::Executes(command) => {
                 let (bytes, objection) = self.execute(&command, payload)?;
                 answer.set_served(served_form(&command), bytes, objection);
@@ -193,7 +194,8 @@ impl Drive {
             | Command::WriteDma { .. }
             | Command::ReadPio { .. }
             | Command::WritePio { .. }
-            | Command::Verify { .. } => unreachable!(),
+            | Command::Verify { .. }
+            | Command::Trim { .. } => unreachable!(),
         }
     }
 

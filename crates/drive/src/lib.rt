@@ -20,6 +20,7 @@ mod seen;
 mod stack;
 mod stored;
 mod transfer;
+mod trimming;
 
 pub use answer::{Accepted, Completed, Form};
 pub use audit::Why;

@@ -113,6 +113,7 @@ fn is_to_device(command: Command) -> bool
         Command::WriteQueued { .. }
         | Command::WriteDma { .. }
         | Command::WritePio { .. }
+        | Command::Trim { .. }
         | Command::Send { .. } => true,
         Command::ReadQueued { .. }
         | Command::ReadDma { .. }
@@ -140,7 +141,9 @@ fn bytes_moved(command: Command) -> u32
         | Command::WriteDma { count, .. }
         | Command::ReadPio { count, .. }
         | Command::WritePio { count, .. } => count,
-        Command::Send { blocks, .. } | Command::Receive { blocks, .. } => u32::from(blocks),
+        Command::Send { blocks, .. } | Command::Receive { blocks, .. } | Command::Trim { blocks } => {
+            u32::from(blocks)
+        }
         Command::Identify | Command::ReadLog10 { .. } => 1,
         Command::ReadLog { pages, .. } => u32::from(pages.count()),
         Command::Flush
