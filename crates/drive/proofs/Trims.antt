@@ -5,7 +5,6 @@ use Rattle.std.specs.List.{list_all, list_any}
 use Rattle.std.proofs.lemmas.Bool.Decides.{nat_tests}
 use Rattle.std.proofs.lemmas.List.Folds.{list_all-append}
 use Rattle.std.proofs.Math.Seq.{drop-cons}
-use Rattle.byteorder.specs.Endian.{little_number}
 use Rattle.fis.specs.declared.h2d.RegH2d.{RegH2d}
 use Rattle.audit.specs.declared.reason.Why.{Why}
 use Rattle.audit.specs.declared.rules.rule.Rule.TheVariants.{BeyondDrive}
@@ -19,12 +18,12 @@ use Rattle.shadow_mbr.specs.Stored.{sector_at, zeros}
 use Rattle.shadow_mbr.specs.declared.erasure.Erasure.{Erasure}
 use Rattle.trusted_cmds.specs.declared.command.Command.TheVariants.{Trim}
 use Rattle.trusted_cmds.specs.declared.trim.Extent.{Extent}
-use Rattle.trusted_cmds.specs.Trims.{entry_size, extent_of, some_sectors, extents_of, extents_in, has_sector}
+use Rattle.trusted_cmds.specs.Trims.{entry_size, some_sectors, extents_of, extents_in, has_sector}
 use Rattle.history.specs.Opening.{Origin}
 use Rattle.history.specs.Events.{Trimmed, Event, did, or_else}
 use Rattle.history.specs.Readers.{trimming}
 use Rattle.history.specs.Facts.{Facts, facts}
-use Rattle.history.specs.Decisions.{aborted, not_found, fails, are_on_drive, denial_by, first_denial, trimmed_by, trimmed}
+use Rattle.history.specs.Decisions.{aborted, not_found, fails, are_on_drive, denial_in, first_denial, trimmed_by, trimmed}
 use Rattle.history.specs.Tcg.{command_read}
 use Rattle.history.specs.Answers.{errored, ready, answer_fis}
 use Rattle.drive.specs.declared.answer.Accepted.{Accepted}
@@ -32,7 +31,7 @@ use Rattle.drive.specs.declared.decision.Decision.TheVariants.{Aborts, Trims}
 use Rattle.drive.specs.declared.decision.Refusal.{Refusal}
 use Rattle.drive.specs.declared.transfer.Transfer.{Transfer}
 use Rattle.drive.specs.Decision.{Refused, told, by_verdict, ranges_of, reason, ruling, policy_on, decision_event}
-use Rattle.drive.specs.Trims.{has_some, write_of, refused_or, first_refusal, refusal_of, refusal_told, erasure_of, erased_by_each}
+use Rattle.drive.specs.Trims.{has_some, as_write, refused_or, first_refused, trim_refusal, refusal_told, erasure_of, erased_by_each}
 use Rattle.drive.specs.State.{DriveState, kept_facts, KeepsDrive}
 use Rattle.drive.specs.Answers.{IsDoneAndAnswered}
 use Rattle.drive.proofs.Keeping.{seen-is, trims-keeps}
@@ -47,13 +46,15 @@ joined : (a b : Bool) → a ≡ true → b ≡ true → (a && b) ≡ true
 joined true b ha hb = hb
 joined false b ha hb = absurd cc
 
+some-more : (extents : List Extent) (extent : Extent) → list_all has_some extents ≡ true → list_all has_some (extents ++ some_sectors extent) ≡ true
+some-more extents extent some =
+    list_all-append has_some extents (some_sectors extent)
+    ∙ joined (list_all has_some extents) (list_all has_some (some_sectors extent)) some (some-here extent (extent.count == 0) refl)
+
 some-of : (payload : List ℕ) (n : ℕ) → list_all has_some (extents_of payload n) ≡ true
 unfolding extents_of
 some-of payload zero = refl
-some-of payload (suc n) =
-    let here : Extent = extent_of (little_number entry_size (drop (entry_size * n) payload)) in
-    list_all-append has_some (extents_of payload n) (some_sectors here)
-    ∙ joined (list_all has_some (extents_of payload n)) (list_all has_some (some_sectors here)) (some-of payload n) (some-here here (here.count == 0) refl)
+some-of payload (suc n) = some-more (extents_of payload n) _ (some-of payload n)
 
 pub extents_some : (payload : List ℕ) → list_all has_some (extents_in payload) ≡ true
 extents_some payload = some-of payload (length payload / entry_size)
@@ -80,29 +81,29 @@ some-later extents i default item small its some = (some-both extents i default 
 
 -- whether one of them is refused
 refusal-there : (d : DriveState) (extents : List Extent) (i : ℕ) (default item : Extent) (t : Transfer) → i < length extents → item ≡ get_or extents i default
-    → t ≡ write_of item → first_refusal d (drop i extents) ≡ refused_or (policy_on d t) (first_refusal d (drop (i + 1) extents))
-unfolding first_refusal
+    → t ≡ as_write item → first_refused d (drop i extents) ≡ refused_or (policy_on d t) (first_refused d (drop (i + 1) extents))
+unfolding first_refused
 refusal-there d extents i default item t small its is =
     let next : suc i ≡ i + 1 = omega arith in
-    ap (first_refusal d) (drop-cons extents i default small)
-    ∙ ap (λ (x : Extent). refused_or (policy_on d (write_of x)) (first_refusal d (drop (suc i) extents))) (sym its)
-    ∙ ap (λ (x : Transfer). refused_or (policy_on d x) (first_refusal d (drop (suc i) extents))) (sym is)
-    ∙ ap (λ (n : ℕ). refused_or (policy_on d t) (first_refusal d (drop n extents))) next
+    ap (first_refused d) (drop-cons extents i default small)
+    ∙ ap (λ (x : Extent). refused_or (policy_on d (as_write x)) (first_refused d (drop (suc i) extents))) (sym its)
+    ∙ ap (λ (x : Transfer). refused_or (policy_on d x) (first_refused d (drop (suc i) extents))) (sym is)
+    ∙ ap (λ (n : ℕ). refused_or (policy_on d t) (first_refused d (drop n extents))) next
 
 pub refused-later : (d : DriveState) (extents : List Extent) (i : ℕ) (default item : Extent) (t : Transfer) (r : Result Bool Refusal) (s : Bool)
-    → i < length extents → item ≡ get_or extents i default → t ≡ write_of item → told r ≡ policy_on d t → r ≡ Ok s
-    → first_refusal d (drop (i + 1) extents) ≡ first_refusal d (drop i extents)
+    → i < length extents → item ≡ get_or extents i default → t ≡ as_write item → told r ≡ policy_on d t → r ≡ Ok s
+    → first_refused d (drop (i + 1) extents) ≡ first_refused d (drop i extents)
 refused-later d extents i default item t r s small its is policy served =
-    ap (λ (x : Result Bool Refusal). refused_or (told x) (first_refusal d (drop (i + 1) extents))) (sym served)
-    ∙ ap (λ (x : Result Bool Refused). refused_or x (first_refusal d (drop (i + 1) extents))) policy
+    ap (λ (x : Result Bool Refusal). refused_or (told x) (first_refused d (drop (i + 1) extents))) (sym served)
+    ∙ ap (λ (x : Result Bool Refused). refused_or x (first_refused d (drop (i + 1) extents))) policy
     ∙ sym (refusal-there d extents i default item t small its is)
 
 pub refused-here : (d : DriveState) (extents : List Extent) (i : ℕ) (default item : Extent) (t : Transfer) (r : Result Bool Refusal) (refusal : Refusal)
-    → i < length extents → item ≡ get_or extents i default → t ≡ write_of item → told r ≡ policy_on d t → r ≡ Err refusal
-    → refusal_told (Some refusal) ≡ first_refusal d (drop i extents)
+    → i < length extents → item ≡ get_or extents i default → t ≡ as_write item → told r ≡ policy_on d t → r ≡ Err refusal
+    → refusal_told (Some refusal) ≡ first_refused d (drop i extents)
 refused-here d extents i default item t r refusal small its is policy refused =
-    ap (λ (x : Result Bool Refusal). refused_or (told x) (first_refusal d (drop (i + 1) extents))) (sym refused)
-    ∙ ap (λ (x : Result Bool Refused). refused_or x (first_refusal d (drop (i + 1) extents))) policy
+    ap (λ (x : Result Bool Refusal). refused_or (told x) (first_refused d (drop (i + 1) extents))) (sym refused)
+    ∙ ap (λ (x : Result Bool Refused). refused_or x (first_refused d (drop (i + 1) extents))) policy
     ∙ sym (refusal-there d extents i default item t small its is)
 
 -- the first that is refused, where all are on the drive, is the first that is denied
@@ -111,14 +112,14 @@ refused_by None = None
 refused_by (Some why) = Some (record { error = aborted; denied = Some why; rule = None })
 
 refuses-here : (v : Verdict) (later : Option Refused) (x : Option Why) → later ≡ refused_by x
-    → refused_or (by_verdict v) later ≡ refused_by (or_else (denial_by v) x)
+    → refused_or (by_verdict v) later ≡ refused_by (or_else (denial_in v) x)
 refuses-here Serve later x is = is
 refuses-here Shadow later x is = is
 refuses-here (Denied why) later x is = refl
 
 refuses-first : (d : DriveState) (extents : List Extent) → are_on_drive d.tper.store.config.sectors extents ≡ true
-    → first_refusal d extents ≡ refused_by (first_denial (ranges_of d.tper) extents)
-unfolding first_refusal first_denial
+    → first_refused d extents ≡ refused_by (first_denial (ranges_of d.tper) extents)
+unfolding first_refused first_denial
 refuses-first d [] on = refl
 refuses-first d (extent ∷ extents) on = by (nat_le (extent.lba + extent.count) d.tper.store.config.sectors) refl on
   where
@@ -127,10 +128,10 @@ refuses-first d (extent ∷ extents) on = by (nat_le (extent.lba + extent.count)
 
     by : (here : Bool) → nat_le (extent.lba + extent.count) d.tper.store.config.sectors ≡ here
         → (here && are_on_drive d.tper.store.config.sectors extents) ≡ true
-        → first_refusal d (extent ∷ extents) ≡ refused_by (first_denial (ranges_of d.tper) (extent ∷ extents))
+        → first_refused d (extent ∷ extents) ≡ refused_by (first_denial (ranges_of d.tper) (extent ∷ extents))
     by true is rest =
-        ap (λ (b : Bool). refused_or (cond b (by_verdict verdict) (Err (record { error = not_found; denied = None; rule = Some BeyondDrive }))) (first_refusal d extents)) is
-        ∙ refuses-here verdict (first_refusal d extents) (first_denial (ranges_of d.tper) extents) (refuses-first d extents rest)
+        ap (λ (b : Bool). refused_or (cond b (by_verdict verdict) (Err (record { error = not_found; denied = None; rule = Some BeyondDrive }))) (first_refused d extents)) is
+        ∙ refuses-here verdict (first_refused d extents) (first_denial (ranges_of d.tper) extents) (refuses-first d extents rest)
     by false is rest = absurd cc
 
 -- what a refusal comes to, or none
@@ -142,18 +143,18 @@ denied-event : (extents : List Extent) (x : Option Why) → trimmed_by extents x
 denied-event extents None = refl
 denied-event extents (Some why) = refl
 
-trimmed-so : (d : DriveState) (f : Facts) (extents : List Extent) → trimmed (kept_facts d f) extents ≡ refused_event extents (refusal_of d extents)
+trimmed-so : (d : DriveState) (f : Facts) (extents : List Extent) → trimmed (kept_facts d f) extents ≡ refused_event extents (trim_refusal d extents)
 trimmed-so d f extents = by (are_on_drive d.tper.store.config.sectors extents) refl
   where
     by : (on : Bool) → are_on_drive d.tper.store.config.sectors extents ≡ on
         → cond on (trimmed_by extents (first_denial (ranges_of d.tper) extents)) (fails not_found None (Some BeyondDrive))
-        ≡ refused_event extents (cond on (first_refusal d extents) (Some (record { error = not_found; denied = None; rule = Some BeyondDrive })))
+        ≡ refused_event extents (cond on (first_refused d extents) (Some (record { error = not_found; denied = None; rule = Some BeyondDrive })))
     by true is =
         denied-event extents (first_denial (ranges_of d.tper) extents)
         ∙ ap (refused_event extents) (sym (refuses-first d extents is))
     by false is = refl
 
-event-so : (d : DriveState) (o : Origin) (past : List Event) (extents : List Extent) (r : Option Refusal) → refusal_told r ≡ refusal_of d extents
+event-so : (d : DriveState) (o : Origin) (past : List Event) (extents : List Extent) (r : Option Refusal) → refusal_told r ≡ trim_refusal d extents
     → KeepsDrive d o past → refused_event extents (refusal_told r) ≡ trimmed (facts o past) extents
 event-so d o past extents r is k =
     ap (refused_event extents) is ∙ sym (trimmed-so d (facts o past) extents)
@@ -161,7 +162,7 @@ event-so d o past extents r is k =
 
 -- a TRIM that is refused
 pub trim-refused : (h : RegH2d) (d : DriveState) (o : Origin) (past : List Event) (payload : List ℕ) (blocks : ℕ) (r : Option Refusal) (refusal : Refusal) (a : Accepted)
-    → refusal_told r ≡ refusal_of d (extents_in payload) → r ≡ Some refusal
+    → refusal_told r ≡ trim_refusal d (extents_in payload) → r ≡ Some refusal
     → IsTold a errored refusal.error false (answer_fis true errored refusal.error ∷ []) [] (reason refusal.cause) (ruling refusal.cause)
     → KeepsDrive d o past → IsDoneAndAnswered (facts o past) h (decision_event (facts o past) payload (Trims blocks)) d o past a
 trim-refused h d o past payload blocks r refusal a told is t k =
@@ -171,7 +172,7 @@ trim-refused h d o past payload blocks r refusal a told is t k =
 
 -- a TRIM that is done
 pub trim-done : (h : RegH2d) (d e : DriveState) (o : Origin) (past : List Event) (payload : List ℕ) (blocks : ℕ) (r : Option Refusal) (a : Accepted)
-    → refusal_told r ≡ refusal_of d (extents_in payload) → r ≡ None
+    → refusal_told r ≡ trim_refusal d (extents_in payload) → r ≡ None
     → command_read d.tper.store.config h ≡ Ok (Trim blocks, None) → e.tper ≡ d.tper → e.queue ≡ d.queue → e.settings ≡ d.settings
     → ((s : ℕ) → sector_at e.media s ≡ unwrap_or (trimming s (extents_in payload)) (sector_at d.media s))
     → IsTold a ready 0 false (answer_fis true ready 0 ∷ []) [] None None

@@ -18,23 +18,23 @@ abbrev pub has_some : Extent → Bool
 has_some extent = nat_lt 0 extent.count
 
 -- An extent is judged as a write of its sectors is.
-abbrev pub write_of : Extent → Transfer
-write_of extent = transfer_by Write extent.lba extent.count
+abbrev pub as_write : Extent → Transfer
+as_write extent = transfer_by Write extent.lba extent.count
 
 abbrev pub refused_or : Result Bool Refused → Option Refused → Option Refused
 refused_or (Ok is_shadowed) later = later
 refused_or (Err refused) later = Some refused
 
 -- The first of the extents that is refused says why.
-unfoldable pub first_refusal : DriveState → List Extent → Option Refused
-first_refusal d [] = None
-first_refusal d (extent ∷ extents) =
-    refused_or (policy_on d (write_of extent)) (first_refusal d extents)
+unfoldable pub first_refused : DriveState → List Extent → Option Refused
+first_refused d [] = None
+first_refused d (extent ∷ extents) =
+    refused_or (policy_on d (as_write extent)) (first_refused d extents)
 
 -- The addresses of all come before the policy.
-abbrev pub refusal_of : DriveState → List Extent → Option Refused
-refusal_of d extents =
-    if are_on_drive d.tper.store.config.sectors extents then first_refusal d extents
+abbrev pub trim_refusal : DriveState → List Extent → Option Refused
+trim_refusal d extents =
+    if are_on_drive d.tper.store.config.sectors extents then first_refused d extents
     else Some (record { error = not_found; denied = None; rule = Some BeyondDrive })
 
 abbrev pub refusal_told : Option Refusal → Option Refused

@@ -5,7 +5,7 @@ ghost use Rattle.std.specs.List.{list_all};
 ghost use Rattle.locking.specs.declared.range.Op.TheVariants.{Write};
 ghost use Rattle.shadow_mbr.specs.Stored.{sector_at};
 ghost use Rattle.history.specs.Decisions.{are_on_drive};
-ghost use Rattle.drive.specs.Trims.{has_some, write_of, erasure_of, erased_by_each};
+ghost use Rattle.drive.specs.Trims.{has_some, as_write, erasure_of, erased_by_each};
 
 use crate::answer::{Accepted, served_form};
 use crate::decision::{Cause, NOT_FOUND, Refusal, objection_to};
@@ -19,9 +19,9 @@ use std::alloc::{AllocError, Global};
 use trusted_cmds::{Command, Extent, extents_in};
 
 /// The write that an extent is judged as.
-fn write_of(extent: &Extent) -> Transfer
+fn as_write(extent: &Extent) -> Transfer
     requires { has_some extent.now ≡ true }
-    ensures { result ≡ write_of extent.now }
+    ensures { result ≡ as_write extent.now }
 {
     Transfer::by(Op::Write, extent.lba, u32::from(extent.count))
 }
@@ -83,12 +83,13 @@ impl Drive {
     ghost use Rattle.history.specs.History.{Act, log};
     ghost use Rattle.drive.specs.declared.decision.Decision.{Decision};
     ghost use Rattle.drive.specs.Decision.{decision_event, IsDue};
-    ghost use Rattle.drive.specs.Trims.{first_refusal, refusal_of, refusal_told};
+    ghost use Rattle.drive.specs.Trims.{first_refused, trim_refusal, refusal_told};
     ghost use Rattle.drive.specs.State.{Agrees};
     ghost use Rattle.drive.specs.Answers.{IsDoneAndAnswered};
 
     /// Does a TRIM, and answers: the sectors that its payload names become zeros where all of them are on the drive and may be
     /// written, and else none of them does. Where memory is refused nothing is said.
+    #[tactic(auto, using(crate::proofs::Trims::extents_some))]
     pub(crate) fn trim(
         &mut self,
         h: &RegH2d,
@@ -105,7 +106,7 @@ impl Drive {
         ensures unsaid { OnErr result (answer.new ≡ answer.old) }
     {
         let extents = extents_in(self.allocator(), payload)?;
-        if let Some(refusal) = self.refusal_of(&extents) {
+        if let Some(refusal) = self.trim_refusal(&extents) {
             answer.set_failed(refusal.error, objection_to(&refusal.cause));
             return Ok(());
         }
@@ -116,9 +117,9 @@ impl Drive {
 
     /// Why a TRIM of these extents is refused, if it is: sectors that are not on the drive, then what the ranges and the
     /// shadow say.
-    fn refusal_of(&self, extents: &[Extent]) -> Option<Refusal>
+    fn trim_refusal(&self, extents: &[Extent]) -> Option<Refusal>
         requires { list_all has_some extents.now ≡ true }
-        ensures { refusal_told result ≡ refusal_of self.now extents.now }
+        ensures { refusal_told result ≡ trim_refusal self.now extents.now }
     {
         if !are_on_drive(self.media.sectors(), extents) {
             return Some(Refusal {
@@ -126,16 +127,16 @@ impl Drive {
                 cause: Cause::Rule(Rule::BeyondDrive),
             });
         }
-        self.first_refusal(extents)
+        self.first_refused(extents)
     }
 
     /// Why the first of the extents is refused that is.
-    fn first_refusal(&self, extents: &[Extent]) -> Option<Refusal>
+    fn first_refused(&self, extents: &[Extent]) -> Option<Refusal>
         requires { list_all has_some extents.now ≡ true }
-        ensures { refusal_told result ≡ first_refusal self.now extents.now }
+        ensures { refusal_told result ≡ first_refused self.now extents.now }
     {
         for extent in extents {
-            if let Err(refusal) = self.policy(&write_of(extent)) {
+            if let Err(refusal) = self.policy(&as_write(extent)) {
                 return Some(refusal);
             }
         }
@@ -143,6 +144,7 @@ impl Drive {
     }
 
     /// Makes zeros of the sectors of the extents. All memory is taken before any of them changes.
+    #[tactic(auto, using(crate::proofs::Trims::erased_is_trimmed))]
     fn wipe(&mut self, extents: &[Extent]) -> Result<(), AllocError>
         ensures tper { self.new.tper ≡ self.old.tper }
         ensures queue { self.new.queue ≡ self.old.queue }
