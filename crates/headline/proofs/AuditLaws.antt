@@ -17,6 +17,8 @@ use Rattle.history.specs.History.{Act, Accept as AcceptFis, event_by}
 use Rattle.history.specs.Opening.{Origin}
 use Rattle.history.proofs.DenialProofs.{denial_law}
 use Rattle.history.proofs.TransferProofs.{verdict_law}
+use Rattle.history.proofs.TrimLaws.{names_extent}
+use Rattle.trusted_cmds.specs.Trims.{extents_in}
 use Rattle.port_history.specs.declared.stages.Put.{Put}
 use Rattle.port_history.specs.declared.stages.Stage.TheVariants.{Issued}
 use Rattle.port_history.specs.declared.step.Step.{Step}
@@ -42,13 +44,16 @@ denied_as f act why (inr (inl m)) =
       names = deny_law (standing f m.session) (uid_of m.object) (uid_of m.method) m.ask why m.denial;
     }))
 denied_as f act why (inr (inr (inl a))) = inr (inr (inl a))
-denied_as f act why (inr (inr (inr s))) = inr (inr (inr s))
+denied_as f act why (inr (inr (inr (inl s)))) = inr (inr (inr (inl s)))
+denied_as f act why (inr (inr (inr (inr t)))) =
+    inr (inr (inr (inr (record { by = t; names = names_extent (ranges_in_force f) (extents_in t.looked.payload) why t.denial }))))
 
 pub as_denied : (f : Facts) (act : Act) (why : Why) → IsDeniedAs f act why → IsDenied f act why
 as_denied f act why (inl t) = inl t.by
 as_denied f act why (inr (inl m)) = inr (inl m.by)
 as_denied f act why (inr (inr (inl a))) = inr (inr (inl a))
-as_denied f act why (inr (inr (inr s))) = inr (inr (inr s))
+as_denied f act why (inr (inr (inr (inl s)))) = inr (inr (inr (inl s)))
+as_denied f act why (inr (inr (inr (inr t)))) = inr (inr (inr (inr t.by)))
 
 -- lines by their numbers
 line_at : (number client : ℕ) (why : Why)

@@ -4,6 +4,7 @@ use Rattle.std.specs.Prelude.{◌≡◌, ℕ, ◌+◌, ◌<◌, ◌==◌, ◌⊎
 use Rattle.audit.specs.declared.reason.AuditLine.{AuditLine}
 use Rattle.audit.specs.declared.reason.Why.{Why}
 use Rattle.tcg_calls.specs.Asks.{uid_of}
+use Rattle.trusted_cmds.specs.Trims.{extents_in}
 use Rattle.methods.specs.Laws.{IsAmong, IsDeniedBy}
 use Rattle.history.specs.Decisions.{ranges_in_force}
 use Rattle.history.specs.DenialLaws.{TransferDenied, MethodDenied, AttemptDenied, StartDenied, TrimDenied}
@@ -11,7 +12,7 @@ use Rattle.history.specs.Tcg.{tcg}
 use Rattle.history.specs.Facts.{Facts, standing}
 use Rattle.history.specs.History.{Act}
 use Rattle.history.specs.Opening.{Origin}
-use Rattle.history.specs.TransferLaws.{IsReason}
+use Rattle.history.specs.TransferLaws.{IsReason, NamesExtent}
 use Rattle.port_history.specs.declared.stages.Put.{Put}
 use Rattle.port_history.specs.declared.stages.Stage.TheVariants.{Issued}
 use Rattle.port_history.specs.declared.step.Step.{Step}
@@ -31,12 +32,17 @@ pub record IsMethodDenied (f : Facts) (act : Act) (why : Why) : Type 0 where
   pub by : MethodDenied f act why
   pub names : IsDeniedBy (standing f by.session) (uid_of by.object) (uid_of by.method) by.ask why
 
--- What denied an act: the policy, the access entries, a failed attempt, which is named with its
--- authority and how it failed, or the policy of a TRIM.
+-- A TRIM that the policy denied: by the first of its extents that may not be written.
+pub record IsTrimDenied (f : Facts) (act : Act) (why : Why) : Type 0 where
+  pub by : TrimDenied f act why
+  pub names : NamesExtent (ranges_in_force f) (extents_in by.looked.payload) why
+
+-- What denied an act: the policy, the access entries, or a failed attempt, which is named with its
+-- authority and how it failed.
 abbrev pub IsDeniedAs : Facts → Act → Why → Type 0
 IsDeniedAs f act why =
     IsTransferDenied f act why ⊎ IsMethodDenied f act why ⊎ AttemptDenied f act why
-    ⊎ StartDenied f act why ⊎ TrimDenied f act why
+    ⊎ StartDenied f act why ⊎ IsTrimDenied f act why
 
 -- A step at which the drive denied the command that a client put.
 pub record IsDeniedStep (o : Origin) (before : List Step) (step : Step) (client : ℕ)

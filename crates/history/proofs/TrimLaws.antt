@@ -1,5 +1,5 @@
 -- A TRIM is done exactly where all that it names may be written.
-use Rattle.std.proofs.Common.{◌≡◌, ◌∙◌, ℕ, ◌+◌, ◌&&◌, Bool, true, false, List, [], ◌∷◌, Option, Some, None, refl, sym, ap, subst, cond, arith}
+use Rattle.std.proofs.Common.{◌≡◌, ◌∙◌, ℕ, ◌+◌, ◌&&◌, Bool, true, false, List, [], ◌∷◌, ◌++◌, Option, Some, None, refl, sym, ap, subst, cond, arith}
 use Rattle.std.proofs.lemmas.List.Elements.{All-head, All-tail, All-cons}
 use Rattle.std.specs.Prelude.{nat_le}
 use Rattle.std.specs.List.{All, list_all}
@@ -16,7 +16,7 @@ use Rattle.trusted_cmds.specs.Trims.{extents_in}
 use Rattle.history.specs.Events.{Trimmed, Event, did, or_else}
 use Rattle.history.specs.Facts.{Facts}
 use Rattle.history.specs.Decisions.{aborted, not_found, fails, denial_in, are_on_drive, first_denial, trimmed_by, trimmed, ranges_in_force}
-use Rattle.history.specs.TransferLaws.{IsPermitted, is_denied, AreTrimmable, TrimsAll, TrimLaw}
+use Rattle.history.specs.TransferLaws.{IsPermitted, is_denied, AreTrimmable, NamesExtent, TrimsAll, TrimLaw}
 use Rattle.history.proofs.MethodProofs.{looked_law}
 use Rattle.history.proofs.TransferProofs.{verdict_law}
 
@@ -73,6 +73,42 @@ all-free sectors ranges (extent ∷ extents) may =
     ((verdict_law ranges Write extent.lba extent.count).served.1 (All-head (MayTrim sectors ranges) extent extents may).1)
     (all-free sectors ranges extents (All-tail (MayTrim sectors ranges) extent extents may))
 
+-- which extent a denial is of
+added : (ranges : RangeRows) (extent : Extent) (extents : List Extent) (why : Why) → is_denied (verdict_of ranges Write extent.lba extent.count) ≡ false
+    → NamesExtent ranges extents why → NamesExtent ranges (extent ∷ extents) why
+added ranges extent extents why free n = record {
+  before = extent ∷ n.before;
+  extent = n.extent;
+  after = n.after;
+  place = ap (λ (xs : List Extent). extent ∷ xs) n.place;
+  passed = All-cons (λ (e : Extent). IsPermitted ranges Write e.lba e.count) extent n.before
+      ((verdict_law ranges Write extent.lba extent.count).served.0 free) n.passed;
+  reason = n.reason;
+}
+
+some-same : {x y : Why} → Some x ≡ Some y → x ≡ y
+some-same h = cc
+
+named : (ranges : RangeRows) (extent : Extent) (extents : List Extent) (why : Why) (v : Verdict) → verdict_of ranges Write extent.lba extent.count ≡ v
+    → (first_denial ranges extents ≡ Some why → NamesExtent ranges extents why) → or_else (denial_in v) (first_denial ranges extents) ≡ Some why
+    → NamesExtent ranges (extent ∷ extents) why
+named ranges extent extents why Serve is later h = added ranges extent extents why (ap is_denied is) (later h)
+named ranges extent extents why Shadow is later h = added ranges extent extents why (ap is_denied is) (later h)
+named ranges extent extents why (Denied w) is later h = record {
+  before = [];
+  extent = extent;
+  after = extents;
+  place = refl;
+  passed = λ k d lt. absurd (omega arith);
+  reason = (verdict_law ranges Write extent.lba extent.count).reason why (is ∙ ap (λ (x : Why). Denied x) (some-same h));
+}
+
+pub names_extent : (ranges : RangeRows) (extents : List Extent) (why : Why) → first_denial ranges extents ≡ Some why → NamesExtent ranges extents why
+unfolding verdict_of first_denial
+names_extent ranges [] why h = absurd (none-some h)
+names_extent ranges (extent ∷ extents) why h =
+    named ranges extent extents why (verdict_of ranges Write extent.lba extent.count) refl (names_extent ranges extents why) h
+
 trims-all : (f : Facts) (extents : List Extent) → TrimsAll f (trimmed f extents) extents
 trims-all f extents =
     by (are_on_drive f.config.sectors extents) (first_denial (ranges_in_force f) extents) refl refl
@@ -83,6 +119,7 @@ trims-all f extents =
       done = (λ h. all-may f.config.sectors (ranges_in_force f) extents on-is x-is, λ may. refl);
       whole = λ h. refl;
       none = λ error h. absurd (none-some h);
+      reason = λ why h. absurd (none-some h);
     }
     by true (Some why) on-is x-is = record {
       done = (
@@ -91,6 +128,7 @@ trims-all f extents =
       );
       whole = λ h. absurd (none-some (sym h));
       none = λ error h. refl;
+      reason = λ w h. names_extent (ranges_in_force f) extents w (x-is ∙ h);
     }
     by false x on-is x-is = record {
       done = (
@@ -99,6 +137,7 @@ trims-all f extents =
       );
       whole = λ h. absurd (none-some (sym h));
       none = λ error h. refl;
+      reason = λ why h. absurd (none-some h);
     }
 
 pub trim_law : TrimLaw

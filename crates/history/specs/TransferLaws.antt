@@ -182,11 +182,23 @@ AreTrimmable f extents =
     All (λ (extent : Extent). (on_drive f extent.lba extent.count ≡ true)
     × IsPermitted (ranges_in_force f) Write extent.lba extent.count) extents
 
--- A TRIM is done exactly where all that it names may be written; then all of it is trimmed, and else nothing changes.
+-- The reason is that of an extent, and each before it may be written.
+pub record NamesExtent (ranges : RangeRows) (extents : List Extent) (why : Why) : Type 0 where
+  pub before : List Extent
+  pub extent : Extent
+  pub after : List Extent
+  pub place : extents ≡ before ++ extent ∷ after
+  pub passed : All (λ (e : Extent). IsPermitted ranges Write e.lba e.count) before
+  pub reason : IsReason ranges Write extent.lba extent.count why
+
+-- A TRIM is done exactly where all that it names may be written; then all of it is trimmed, and else nothing changes. A denial
+-- has its reason.
 pub record TrimsAll (f : Facts) (event : Event) (extents : List Extent) : Type 0 where
   pub done : (event.failed ≡ None) ↔ AreTrimmable f extents
   pub whole : event.failed ≡ None → event.deed ≡ Trimmed extents
   pub none : (error : ℕ) → event.failed ≡ Some error → event.deed ≡ Nothing
+  pub reason : (why : Why) → event.denied ≡ Some why
+      → NamesExtent (ranges_in_force f) extents why
 
 abbrev pub TrimLaw : Type 0
 TrimLaw =

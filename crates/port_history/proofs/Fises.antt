@@ -2,7 +2,7 @@
 use Rattle.basics.specs.declared.profile.Profile.TheVariants.{Base, Field, Opal}
 use Rattle.basics.specs.declared.profile.Profile.{Profile}
 use Rattle.trusted_cmds.specs.Profiles.{payload_length_in, field_payload_length, short_write_dma}
-use Rattle.trusted_cmds.specs.General.{is_general, writes_more, sectors_moved}
+use Rattle.trusted_cmds.specs.General.{is_general, brings_more, blocks_brought}
 use Rattle.sp_cells.specs.Config.{Config}
 use Rattle.port_history.specs.Laws.{is_of_request, read_as, IsSized}
 use Rattle.std.proofs.Common.{◌≡◌, ◌∙◌, ◌+◌, ◌*◌, ◌/◌, ◌%◌, ◌^◌, ◌<◌, ◌≤◌, ◌==◌, ℕ, true, false, List, [], ◌∷◌, length, slice_index, if◌then◌else◌, None, refl, ap, arith, inl, inr, cond, Bool, sym}
@@ -246,7 +246,7 @@ not-general (Control control) asked = absurd (unasked asked)
 -- The FIS of a command that is none of those: no profile reads more data with it than another.
 record HasOldCode (code : ℕ) : Type 0 where
   not_short : (code == short_write_dma) ≡ false
-  not_more : writes_more code ≡ false
+  not_more : brings_more code ≡ false
 
 general : true ≡ false → ⊥
 general h = cc
@@ -287,7 +287,7 @@ any_profile Base command tag none = refl
 any_profile Field command tag none = field-length command tag none
 any_profile Opal command tag none =
     ap
-    (λ (b : Bool). cond b (sector_size * sectors_moved (fis_of command tag)) (field_payload_length (fis_of command tag)))
+    (λ (b : Bool). cond b (sector_size * blocks_brought (fis_of command tag)) (field_payload_length (fis_of command tag)))
     (old-code command tag none).not_more
     ∙ field-length command tag none
 

@@ -128,7 +128,7 @@ kept_says : KeptCallLaw → (o : Origin) (acts : List Act) (s : Stored) (l : Liv
 kept_says law o acts s l session object method args stored live known lives =
     ap (λ out. out.deed) (law o acts s l session object method args stored live known lives)
 
--- `reasons`: each kind of denial has its reason, and a reason is of one of the four.
+-- `reasons`: each kind of denial has its reason, and a reason is of one of them.
 transfer_has_reason : DenialLaw → (f : Facts) (act : Act) (why : Why) → TransferDenied f act why
     → (event_by f act).denied ≡ Some why
 transfer_has_reason law f act why denied = (law f act why).1 (inl denied)
@@ -144,6 +144,10 @@ attempt_has_reason law f act why denied = (law f act why).1 (inr (inr (inl denie
 start_has_reason : DenialLaw → (f : Facts) (act : Act) (why : Why) → StartDenied f act why
     → (event_by f act).denied ≡ Some why
 start_has_reason law f act why denied = (law f act why).1 (inr (inr (inr (inl denied))))
+
+trim_has_reason : DenialLaw → (f : Facts) (act : Act) (why : Why) → TrimDenied f act why
+    → (event_by f act).denied ≡ Some why
+trim_has_reason law f act why denied = (law f act why).1 (inr (inr (inr (inr denied))))
 
 reason_is_of_one : DenialLaw → (f : Facts) (act : Act) (why : Why) → (event_by f act).denied ≡ Some why
     → TransferDenied f act why ⊎ MethodDenied f act why ⊎ AttemptDenied f act why ⊎ StartDenied f act why

@@ -1,13 +1,15 @@
 -- What each clause of the laws of items and of transfers of `history` says: of the items of this drive, of a transfer that
 -- comes to the policy, and of what is held.
-use Rattle.std.proofs.Common.{◌≡◌, ℕ, ◌+◌, true, false, List, [], ◌∷◌, ◌++◌, Option, Some, None, Ok, refl, sym, inl, inr, arith, ap, ◌∙◌}
+use Rattle.std.proofs.Common.{◌≡◌, ℕ, ◌+◌, ◌<◌, true, false, List, [], ◌∷◌, ◌++◌, length, get_or, Option, Some, None, Ok, refl, sym, inl, inr, arith, ap, ◌∙◌}
 use Rattle.sp_cells.specs.Config.{Config}
 use Rattle.sp_cells.specs.Flat.{LookUp}
 use Rattle.audit.specs.declared.reason.Why.{Why}
 use Rattle.fis.specs.declared.h2d.RegH2d.{RegH2d}
 use Rattle.compacket.specs.Frames.{reading as frame_in}
 use Rattle.trusted_cmds.specs.declared.command.Command.{Command}
-use Rattle.trusted_cmds.specs.declared.command.Command.TheVariants.{Flush}
+use Rattle.trusted_cmds.specs.declared.command.Command.TheVariants.{Flush, Trim}
+use Rattle.trusted_cmds.specs.declared.trim.Extent.{Extent}
+use Rattle.trusted_cmds.specs.Trims.{extents_in}
 use Rattle.locking.specs.Range.{RangeRows, row_at, is_shadowed}
 use Rattle.locking.specs.Verdict.{AreOpen, ArePermitted, AreShadowed, IsLeastDenied, is_permitted, verdict_of, why_of, shadow_why}
 use Rattle.locking.specs.declared.range.Op.{Op}
@@ -15,7 +17,7 @@ use Rattle.locking.specs.declared.range.Op.TheVariants.{Read, Write}
 use Rattle.locking.specs.declared.ranges.Verdict.TheVariants.{Denied}
 use Rattle.history.specs.Decisions.{on_drive, ranges_in_force, verdict_on}
 use Rattle.history.specs.DenialLaws.{Reaches, read_queued, write_queued, read_dma, write_dma, read_pio, write_pio, verify, IsFree}
-use Rattle.history.specs.Events.{HeldCommand, QueueDeed, OfQueue, Wrote, Took}
+use Rattle.history.specs.Events.{HeldCommand, QueueDeed, Nothing, OfQueue, Wrote, Trimmed, Took}
 use Rattle.history.specs.Facts.{Facts, facts}
 use Rattle.history.specs.History.{Act, Accept, event_by, event_in, log_of}
 use Rattle.history.specs.Items.{Items}
@@ -25,7 +27,7 @@ use Rattle.history.specs.Opening.{Origin}
 use Rattle.history.specs.Quiet.{IsQuiet, ReadsTags, is_quiet}
 use Rattle.history.specs.Readers.{held}
 use Rattle.history.specs.Tcg.{tcg}
-use Rattle.history.specs.TransferLaws.{VerdictLaw, HeldLaw, TagLaw, ServiceLaw, WriteLaw, UnreachedLaw, ReachesNone, with_sectors, IsPermitted, IsReason, is_denied}
+use Rattle.history.specs.TransferLaws.{VerdictLaw, HeldLaw, TagLaw, ServiceLaw, WriteLaw, UnreachedLaw, TrimLaw, ReachesNone, AreTrimmable, NamesExtent, with_sectors, IsPermitted, IsReason, is_denied}
 use Rattle.headline.proofs.law_rows.Lists.{not_both}
 
 -- `quiet`: no send writes sectors, takes a response or changes the queue.
@@ -200,7 +202,51 @@ flush_writes_none : UnreachedLaw → (items : Items) → IsQuiet items → (f : 
 flush_writes_none law items quiet f act lba bytes looked =
     (law.0 items quiet f act Flush None looked flush_apart).unwritten lba bytes
 
+flush_trims_none : UnreachedLaw → (items : Items) → IsQuiet items → (f : Facts) (act : Act)
+    (extents : List Extent) → IsLookedAtBy items f act Flush None
+    → (event_in items f act).deed ≡ Trimmed extents → ⊥
+flush_trims_none law items quiet f act extents looked =
+    (law.0 items quiet f act Flush None looked flush_apart).untrimmed extents
+
 flush_is_blind : UnreachedLaw → (f : Facts) (act : Act) (sectors : ℕ → List ℕ)
     → IsLookedAtBy tcg f act Flush None
     → event_by (with_sectors f sectors) act ≡ event_by f act
 flush_is_blind law f act sectors looked = (law.1 f act Flush None looked flush_apart).done sectors
+
+-- `trimmed`: what is done may be written, entry by entry, and is trimmed whole; what may be written is done; and what fails
+-- changes nothing.
+trimmed_is_permitted : TrimLaw → (items : Items) (f : Facts) (act : Act) (blocks : ℕ)
+    (looked : IsLookedAtBy items f act (Trim blocks) None) → (event_in items f act).failed ≡ None
+    → (k : ℕ) (d : Extent) → k < length (extents_in looked.payload)
+    → IsPermitted (ranges_in_force f) Write (get_or (extents_in looked.payload) k d).lba
+    (get_or (extents_in looked.payload) k d).count
+trimmed_is_permitted law items f act blocks looked done k d below =
+    ((law items f act blocks looked).done.0 done k d below).1
+
+trimmed_is_on_drive : TrimLaw → (items : Items) (f : Facts) (act : Act) (blocks : ℕ)
+    (looked : IsLookedAtBy items f act (Trim blocks) None) → (event_in items f act).failed ≡ None
+    → (k : ℕ) (d : Extent) → k < length (extents_in looked.payload)
+    → on_drive f (get_or (extents_in looked.payload) k d).lba
+    (get_or (extents_in looked.payload) k d).count ≡ true
+trimmed_is_on_drive law items f act blocks looked done k d below =
+    ((law items f act blocks looked).done.0 done k d below).0
+
+permitted_is_trimmed : TrimLaw → (items : Items) (f : Facts) (act : Act) (blocks : ℕ)
+    (looked : IsLookedAtBy items f act (Trim blocks) None) → AreTrimmable f (extents_in looked.payload)
+    → (event_in items f act).failed ≡ None
+permitted_is_trimmed law items f act blocks looked may = (law items f act blocks looked).done.1 may
+
+trimmed_whole : TrimLaw → (items : Items) (f : Facts) (act : Act) (blocks : ℕ)
+    (looked : IsLookedAtBy items f act (Trim blocks) None) → (event_in items f act).failed ≡ None
+    → (event_in items f act).deed ≡ Trimmed (extents_in looked.payload)
+trimmed_whole law items f act blocks looked = (law items f act blocks looked).whole
+
+failed_trims_none : TrimLaw → (items : Items) (f : Facts) (act : Act) (blocks error : ℕ)
+    (looked : IsLookedAtBy items f act (Trim blocks) None) → (event_in items f act).failed ≡ Some error
+    → (event_in items f act).deed ≡ Nothing
+failed_trims_none law items f act blocks error looked = (law items f act blocks looked).none error
+
+denied_for_an_extent : TrimLaw → (items : Items) (f : Facts) (act : Act) (blocks : ℕ) (why : Why)
+    (looked : IsLookedAtBy items f act (Trim blocks) None) → (event_in items f act).denied ≡ Some why
+    → NamesExtent (ranges_in_force f) (extents_in looked.payload) why
+denied_for_an_extent law items f act blocks why looked = (law items f act blocks looked).reason why

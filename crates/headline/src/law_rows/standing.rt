@@ -12,7 +12,7 @@ ghost use Rattle.history.specs.MethodLaws.{CallLaw, ActEffectLaw};
 ghost use Rattle.history.specs.NoTrace.{ActOpenLaw, ElsewhereLaw, ActAbortLaw, IsByOwnView};
 ghost use Rattle.history.specs.Quiet.{IsQuiet, ReadsTags};
 ghost use Rattle.history.specs.Tcg.{tcg};
-ghost use Rattle.history.specs.TransferLaws.{VerdictLaw, HeldLaw, TagLaw, ServiceLaw, WriteLaw, UnreachedLaw};
+ghost use Rattle.history.specs.TransferLaws.{VerdictLaw, HeldLaw, TagLaw, ServiceLaw, WriteLaw, UnreachedLaw, TrimLaw};
 ghost use Rattle.history.specs.TriesLaw.{TriesLaw, LimitLaw};
 ghost use Rattle.port_history.specs.Laws.{IsForPorts, NeverMixes, FailureLaw, RegisterLaw, AnswerLaw, TakeLaw, OwnLaw, FedLaw, FullLaw};
 
@@ -34,6 +34,7 @@ pub fn transfers_stand()
     ensures served { ServiceLaw }
     ensures written { WriteLaw }
     ensures unreached { UnreachedLaw }
+    ensures trimmed { TrimLaw }
     ensures reasons { DenialLaw }
     ensures lines { ActAuditLaw }
 {
