@@ -141,9 +141,8 @@ fn bytes_moved(command: Command) -> u32
         | Command::WriteDma { count, .. }
         | Command::ReadPio { count, .. }
         | Command::WritePio { count, .. } => count,
-        Command::Send { blocks, .. } | Command::Receive { blocks, .. } | Command::Trim { blocks } => {
-            u32::from(blocks)
-        }
+        Command::Send { blocks, .. } | Command::Receive { blocks, .. } | Command::Trim { blocks } =>
+            { u32::from(blocks) }
         Command::Identify | Command::ReadLog10 { .. } => 1,
         Command::ReadLog { pages, .. } => u32::from(pages.count()),
         Command::Flush
