@@ -42,6 +42,8 @@ static void *read_fis(void *it) { code = opal_command_fis(OPAL_READ_QUEUED, 100,
 static void *read_dma_fis(void *it) { code = opal_command_fis(OPAL_READ_DMA, 500, 1, 0, fis, sizeof fis).code; return it; }
 static void *payload(void *it) { code = opal_drive_payload(&handle, fis, sizeof fis).code; return it; }
 static void *accepts(void *it) { code = opal_drive_accept(&handle, fis, sizeof fis, NULL, 0).code; return it; }
+static void *accepts_into(void *it) { code = opal_drive_accept_into(&handle, fis, sizeof fis, NULL, 0, block, sizeof block).code; return it; }
+static void *completes_into(void *it) { code = opal_drive_complete_into(&handle, 3, NULL, 0, block, sizeof block).code; return it; }
 static void *expects(void *it) { code = opal_drive_expects(&handle, 3).code; return it; }
 static void *completes(void *it) { code = opal_drive_complete(&handle, 3, NULL, 0).code; return it; }
 static void *data(void *it) { code = opal_drive_data(&handle, block, sizeof block).code; return it; }
@@ -155,7 +157,8 @@ int main(void)
     RUN(version), RUN(tokens), RUN(named);
     RUN(drive_new), RUN(about), RUN(media);
     RUN(frame), RUN(opened), RUN(send_fis), RUN(send_block), RUN(receive_fis), RUN(accepts), RUN(data);
-    RUN(read_fis), RUN(decoded), RUN(payload), RUN(accepts), RUN(expects), RUN(completes), RUN(failure), RUN(reset);
+    RUN(read_fis), RUN(decoded), RUN(payload), RUN(accepts), RUN(expects), RUN(completes), RUN(accepts_into), RUN(completes_into);
+    RUN(failure), RUN(reset);
     RUN(read_dma_fis), RUN(accepts), RUN(denial), RUN(denied), RUN(remedy);
     RUN(frees);
     RUN(port_new);

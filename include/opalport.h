@@ -423,6 +423,10 @@ opal_code opal_raw_free(opal_raw_object *object);
 opal_answer opal_raw_drive_accept(opal_raw_object *object, const uint8_t *fis, size_t fis_length, const uint8_t *payload,
                                   size_t payload_length);
 opal_answer opal_raw_drive_complete(opal_raw_object *object, uint8_t tag, const uint8_t *payload, size_t payload_length);
+opal_answer opal_raw_drive_accept_into(opal_raw_object *object, const uint8_t *fis, size_t fis_length, const uint8_t *payload,
+                                       size_t payload_length, uint8_t *into, size_t length);
+opal_answer opal_raw_drive_complete_into(opal_raw_object *object, uint8_t tag, const uint8_t *payload, size_t payload_length,
+                                         uint8_t *into, size_t length);
 opal_code opal_raw_drive_reset(opal_raw_object *object, uint32_t kind);
 opal_count opal_raw_drive_payload(opal_raw_object *object, const uint8_t *fis, size_t fis_length);
 opal_count opal_raw_drive_expects(opal_raw_object *object, uint8_t tag);
@@ -725,6 +729,47 @@ OPAL_MUST_USE static inline opal_answer opal_drive_complete(opal_handle *drive, 
     if (told.code != OPAL_DONE)
         return told;
     told = opal_raw_drive_complete(&call.object, tag, opal_raw_at(payload), payload_length);
+    opal_raw_end(&call);
+    return told;
+}
+
+/* As opal_drive_accept, with the data of the answer at the front of a buffer: one call in place of two. Where the buffer is shorter
+   than the data are long (`length` of the answer), it is as before, and opal_drive_data gives them. */
+OPAL_MUST_USE static inline opal_answer opal_drive_accept_into(opal_handle *drive, const uint8_t *fis, size_t fis_length,
+                                                               const void *payload, size_t payload_length, void *into,
+                                                               size_t length)
+{
+    opal_raw_call call;
+    opal_answer told = { opal_raw_from(drive, fis, fis_length), 0, 0, false, false, 0 };
+    if (told.code == OPAL_DONE)
+        told.code = opal_raw_between(payload, payload_length, into, length);
+    if (told.code == OPAL_DONE && opal_raw_meet(fis, fis_length, into, length))
+        told.code = OPAL_SHARED;
+    if (told.code == OPAL_DONE)
+        told.code = opal_raw_into(drive, into, length);
+    told.code = opal_raw_begin(&call, drive, told.code);
+    if (told.code != OPAL_DONE)
+        return told;
+    told = opal_raw_drive_accept_into(&call.object, opal_raw_at(fis), fis_length, opal_raw_at(payload), payload_length,
+                                      opal_raw_at(into), length);
+    opal_raw_end(&call);
+    return told;
+}
+
+/* As opal_drive_complete, with the data of the answer in a buffer, as opal_drive_accept_into has it. */
+OPAL_MUST_USE static inline opal_answer opal_drive_complete_into(opal_handle *drive, uint8_t tag, const void *payload,
+                                                                 size_t payload_length, void *into, size_t length)
+{
+    opal_raw_call call;
+    opal_answer told = { opal_raw_from(drive, payload, payload_length), 0, 0, false, false, 0 };
+    if (told.code == OPAL_DONE)
+        told.code = opal_raw_between(payload, payload_length, into, length);
+    if (told.code == OPAL_DONE)
+        told.code = opal_raw_into(drive, into, length);
+    told.code = opal_raw_begin(&call, drive, told.code);
+    if (told.code != OPAL_DONE)
+        return told;
+    told = opal_raw_drive_complete_into(&call.object, tag, opal_raw_at(payload), payload_length, opal_raw_at(into), length);
     opal_raw_end(&call);
     return told;
 }

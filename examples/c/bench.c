@@ -120,6 +120,25 @@ static void unlocked(void)
     tell("READ FPDMA QUEUED of 100", answer);
 }
 
+/* The data of an answer in a buffer of the call; one that is too short is as before. */
+static void read_into(void)
+{
+    uint8_t fis[20], into[SECTOR + 1] = { 0 };
+    must(opal_command_fis(OPAL_READ_DMA, 100, 1, 0, fis, sizeof fis).code == OPAL_DONE, "no FIS");
+    opal_answer answer = opal_drive_accept_into(&drive, fis, sizeof fis, NULL, 0, into, SECTOR - 1);
+    must(answer.code == OPAL_DONE && answer.length == SECTOR && into[0] == 0, "a short buffer was written");
+    must(opal_drive_data(&drive, into, SECTOR).number == SECTOR && into[0] == 0xa5, "its data are gone");
+    memset(into, 0, sizeof into);
+    answer = opal_drive_accept_into(&drive, fis, sizeof fis, NULL, 0, into, sizeof into);
+    must(answer.length == SECTOR && into[0] == 0xa5 && into[SECTOR - 1] == 0xa5 && into[SECTOR] == 0, "another sector was read");
+    must(opal_command_fis(OPAL_READ_QUEUED, 100, 1, 6, fis, sizeof fis).code == OPAL_DONE, "no FIS");
+    answer = opal_drive_accept_into(&drive, fis, sizeof fis, NULL, 0, into, 0);
+    must(answer.held && answer.length == 0, "the read is not held");
+    memset(into, 0, sizeof into);
+    answer = opal_drive_complete_into(&drive, 6, NULL, 0, into, SECTOR);
+    must(answer.length == SECTOR && into[0] == 0xa5 && into[SECTOR - 1] == 0xa5, "the read gives another sector");
+}
+
 /* What a caller can get wrong is an error value. */
 static void refused(void)
 {
@@ -150,6 +169,7 @@ int main(void)
     must(opal_drive_new(&drive, &config) == OPAL_IN_USE, "a second drive at one handle");
     denied_and_recovered();
     unlocked();
+    read_into();
     refused();
     return 0;
 }

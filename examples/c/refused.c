@@ -128,6 +128,8 @@ static void pointers(void)
     config.ranges = NULL;
     tell("null rows", opal_drive_new(&two[0], &config));
     tell("data into the handle", opal_drive_data(&drive, &drive, sizeof drive).code);
+    tell("data where the FIS stands", opal_drive_accept_into(&drive, bytes, 20, NULL, 0, bytes + 19, 512).code);
+    tell("data where the payload stands", opal_drive_complete_into(&drive, 0, bytes, 512, bytes + 511, 64).code);
     tell("a frame where its payload stands", opal_frame(OPAL_COM_ID, 1, 2, bytes, 2, bytes, sizeof bytes).code);
     tell("a text where its bytes stand", opal_tokens_text(0, bytes, 2, (char *)bytes + 1, 64).code);
     tell("a line that writes no call", opal_call_named("set 1 Locking_Range1 ReadLocked", 31, bytes, sizeof bytes).code);

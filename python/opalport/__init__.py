@@ -19,7 +19,7 @@ import os
 import threading
 from dataclasses import dataclass
 from types import TracebackType
-from typing import Any, Iterable, List, Optional, Sequence, Tuple, Type, TypeVar, Union
+from typing import Any, Iterable, List, NamedTuple, Optional, Sequence, Tuple, Type, TypeVar, Union
 
 __all__ = [
     "Answer", "Carried", "ClosedError", "Code", "Command", "Denied", "Drive", "EngineStep", "Failure", "Hba", "Kind", "OpalError",
@@ -227,9 +227,9 @@ class Range:
     write_locked: bool = False
 
 
-@dataclass(frozen=True)
-class Answer:
-    """What a drive answers to a command, or to a completion."""
+class Answer(NamedTuple):
+    """What a drive answers to a command, or to a completion. One is made for each command: a tuple takes less time than the
+    dataclasses below."""
 
     status: int
     error: int
@@ -409,7 +409,7 @@ class _About(ctypes.Structure):
 
 
 _BYTES = [ctypes.c_void_p, ctypes.c_size_t]
-_HANDLE = [ctypes.POINTER(_Handle)]
+_HANDLE = [ctypes.c_void_p]
 _MAKE = [*_HANDLE, _Size, *_BYTES, *_BYTES, *_BYTES, *_BYTES, ctypes.POINTER(_Range), ctypes.c_size_t]
 _CALLS = {
     "version": (ctypes.c_uint32, []),
@@ -421,6 +421,8 @@ _CALLS = {
     "free": (ctypes.c_uint32, _HANDLE),
     "drive_accept": (_Answer, [*_HANDLE, *_BYTES, *_BYTES]),
     "drive_complete": (_Answer, [*_HANDLE, ctypes.c_uint8, *_BYTES]),
+    "drive_accept_into": (_Answer, [*_HANDLE, *_BYTES, *_BYTES, *_BYTES]),
+    "drive_complete_into": (_Answer, [*_HANDLE, ctypes.c_uint8, *_BYTES, *_BYTES]),
     "drive_reset": (ctypes.c_uint32, [*_HANDLE, ctypes.c_uint32]),
     "drive_payload": (_Count, [*_HANDLE, *_BYTES]),
     "drive_expects": (_Count, [*_HANDLE, ctypes.c_uint8]),
@@ -489,10 +491,8 @@ _LIBRARY = _Library()
 
 
 def _check(code: int) -> None:
-    if code == Code.NOT_OPEN:
-        raise ClosedError(code)
-    if code != Code.DONE:
-        raise OpalError(code)
+    if code:
+        raise (ClosedError if code == Code.NOT_OPEN else OpalError)(code)
 
 
 def _within(number: int, most: int) -> int:
@@ -502,14 +502,21 @@ def _within(number: int, most: int) -> int:
     return number
 
 
-def _bytes(data: Bytes) -> Tuple[Any, int]:
+def _bytes(data: Bytes) -> Tuple[Any, Any]:
     """Bytes for a call. They are copied where they can't be written and are no `bytes`, or do not stand side by side."""
     if isinstance(data, bytes):
-        return data, len(data)
+        return data, len(data) or _NONE
     view = memoryview(data)  # a number has no buffer, and is a TypeError
     if view.readonly or not view.c_contiguous:
         return view.tobytes(), view.nbytes
     return _room(view)
+
+
+def _fis(data: Bytes) -> Tuple[Any, Any]:
+    """The bytes of a FIS for a call."""
+    if isinstance(data, bytes) and len(data) == FIS_LENGTH:
+        return data, _FIS_SIZE
+    return _bytes(data)
 
 
 def _room(into: Buffer) -> Tuple[Any, int]:
@@ -599,7 +606,8 @@ class _Object:
     def __init__(self, *, sectors: Optional[int] = None, shadow: Optional[int] = None, msid: Bytes = MSID, ranges: Sequence[Range] = (),
                  profile: str = "base", serial: str = "", model: str = "", psid: Bytes = b"",
                  datastore: Optional[int] = None, seed: int = 0) -> None:
-        self._handle, self._lock = _Handle(), threading.RLock()
+        self._words, self._lock = _Handle(), threading.RLock()
+        self._handle = ctypes.c_void_p(ctypes.addressof(self._words))
         rows = (_Range * len(ranges))(*(_row(it) for it in ranges))
         store = ANY_SIZE if datastore is None else min(_within(datastore, ANY_SIZE), ANY_SIZE - 1)
         if profile not in PROFILES:
@@ -614,7 +622,7 @@ class _Object:
     def close(self) -> None:
         """Frees the object, if that was not done."""
         with self._lock:
-            if self._handle.mark:
+            if self._words.mark:
                 _check(_LIBRARY.free(self._handle))
 
     def __enter__(self: _Self) -> _Self:
@@ -671,36 +679,52 @@ class _Object:
         return number
 
 
+# The bytes of data of an answer that a drive has a buffer for: 128 sectors. Those of more are asked for by a call more.
+_MOST = 65_536
+# What most calls have, as `ctypes` takes it with no work.
+_ROOM, _FIS_SIZE, _NONE = ctypes.c_size_t(_MOST), ctypes.c_size_t(FIS_LENGTH), ctypes.c_size_t(0)
+
+
 class Drive(_Object):
     """A self-locking drive."""
 
     _make = "drive_new"
+    _data: Optional[memoryview] = None  # a buffer for the data of an answer, which stands at an address
+    _place = ctypes.c_void_p()
 
     def _answer(self, call: Any, *arguments: Any) -> Answer:
         with self._lock:
-            told = call(self._handle, *arguments)
-            _check(told.code)
-            data = _written(_LIBRARY.drive_data, self._handle, room=told.length) if told.length else b""
+            if self._data is None:
+                self._data = memoryview(bytearray(_MOST))
+                self._place = ctypes.c_void_p(ctypes.addressof(ctypes.c_char.from_buffer(self._data)))
+            told = call(self._handle, *arguments, self._place, _ROOM)
+            if told.code:
+                _check(told.code)
+            length = told.length
+            if length > _MOST:
+                data = _written(_LIBRARY.drive_data, self._handle, room=length)
+            else:
+                data = self._data[:length].tobytes() if length else b""
         return Answer(told.status, told.error, told.held, told.denied, data)
 
     def accept(self, fis: Bytes, payload: Bytes = b"") -> Answer:
         """Gives the drive the FIS of a command, with the payload that it brings."""
-        return self._answer(_LIBRARY.drive_accept, *_bytes(fis), *_bytes(payload))
+        return self._answer(_LIBRARY.drive_accept_into, *_fis(fis), *_bytes(payload))
 
     def accept_into(self, fis: Bytes, into: Buffer, payload: Bytes = b"") -> Answer:
         """As `accept`, with the data put into a buffer: the answer has a view of them. Where they have no room there, the command
         is done, and the error is `Code.ROOM`."""
         buffer, room = _room(into)
         with self._lock:
-            told = _LIBRARY.drive_accept(self._handle, *_bytes(fis), *_bytes(payload))
-            _check(told.code)
-            if told.length:
-                _check(_LIBRARY.drive_data(self._handle, buffer, room).code)
+            told = _LIBRARY.drive_accept_into(self._handle, *_fis(fis), *_bytes(payload), buffer, room)
+        _check(told.code)
+        if told.length > room:
+            raise OpalError(Code.ROOM)
         return Answer(told.status, told.error, told.held, told.denied, memoryview(into).cast("B")[:told.length])
 
     def complete(self, tag: int, payload: Bytes = b"") -> Answer:
         """Moves the data of the command that is held under a tag, and lets it go."""
-        return self._answer(_LIBRARY.drive_complete, _tag(tag), *_bytes(payload))
+        return self._answer(_LIBRARY.drive_complete_into, _tag(tag), *_bytes(payload))
 
     def payload_length(self, fis: Bytes) -> int:
         """How many bytes of payload a command brings."""

@@ -17,7 +17,7 @@ use Rattle.library_calls.specs.Counts.{refused_count}
 use Rattle.opalport_c.specs.Asked.{CanBe, ConfigAsked, IsMakingFault, StartsAs, row_asked}
 use Rattle.library_calls.specs.Copies.{IsCopied, IsWrittenOut}
 use Rattle.opalport_c.specs.Denials.{denial_at}
-use Rattle.opalport_c.specs.Desks.{IsTakenAs, IsFinishedAs, IsResetAs, IsNewDesk, payload_count, expected_count, last_bytes}
+use Rattle.opalport_c.specs.Desks.{IsTakenAs, IsFinishedAs, IsResetAs, IsNewDesk, payload_count, expected_count, last_bytes, laid_data}
 use Rattle.opalport_c.specs.Failures.{refused_failure, failure_numbers}
 use Rattle.library_calls.specs.Refusals.{done_code, code_of_call}
 
@@ -50,6 +50,19 @@ AcceptsBy had has fis payload answer = ByDrive had has (λ e. answer ≡ refused
 abbrev pub FinishesBy : Option Object → Option Object → ℕ → List ℕ → Answer → Type 0
 FinishesBy had has tag payload answer = ByDrive had has (λ e. answer ≡ refused_answer e)
     (λ old new. IsFinishedAs old new tag payload answer)
+
+-- The same two, with the data of the answer in a buffer.
+abbrev pub AcceptsInto : Option Object → Option Object → List ℕ → List ℕ → List ℕ → List ℕ → Answer
+    → Type 0
+AcceptsInto had has fis payload into out answer =
+    ByDrive had has (λ e. (answer ≡ refused_answer e) × (out ≡ into))
+    (λ old new. IsTakenAs old new fis payload answer × (out ≡ laid_data answer new into))
+
+abbrev pub FinishesInto : Option Object → Option Object → ℕ → List ℕ → List ℕ → List ℕ → Answer
+    → Type 0
+FinishesInto had has tag payload into out answer =
+    ByDrive had has (λ e. (answer ≡ refused_answer e) × (out ≡ into))
+    (λ old new. IsFinishedAs old new tag payload answer × (out ≡ laid_data answer new into))
 
 -- The drive was to be reset.
 abbrev pub Resets : Option Object → Option Object → ℕ → ℕ → Type 0

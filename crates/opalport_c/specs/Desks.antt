@@ -1,5 +1,5 @@
 -- A drive that a caller from outside works on.
-use Rattle.std.specs.Prelude.{◌≡◌, ◌≢◌, ◌<◌, ◌==◌, ◌&&◌, ◌+◌, ◌%◌, ◌^◌, ℕ, IfSome, List, [], ◌∷◌, length, nat_lt, is_some, false, if◌then◌else◌, Option, Some, None}
+use Rattle.std.specs.Prelude.{◌≡◌, ◌≢◌, ◌<◌, ◌==◌, ◌&&◌, ◌+◌, ◌%◌, ◌^◌, ◌++◌, ℕ, IfSome, List, [], ◌∷◌, length, drop, nat_le, nat_lt, is_some, false, if◌then◌else◌, Option, Some, None}
 use Rattle.fis.specs.Types.{h2d_length}
 use Rattle.fis.specs.Tags.{slot_count}
 use Rattle.fis.specs.H2d.{h2d_at}
@@ -137,6 +137,13 @@ abbrev pub IsFinishedAs : DriveDesk → DriveDesk → ℕ → List ℕ → Answe
 IsFinishedAs old new tag payload answer =
     IsCalled (completion_fault old.drive tag payload) old new answer
     (CompletesHeld old new tag payload)
+
+-- The data of an answer stand at the front of a buffer that has room for them. A shorter one is as before, and so is that of
+-- a call that was refused.
+abbrev pub laid_data : Answer → DriveDesk → List ℕ → List ℕ
+laid_data answer desk into =
+    if (answer.code == done_code) && nat_le (length (last_bytes desk)) (length into)
+    then last_bytes desk ++ drop (length (last_bytes desk)) into else into
 
 -- How many bytes a command brings, and a completion.
 abbrev pub payload_count : DriveState → List ℕ → Count

@@ -30,7 +30,7 @@ pub struct DriveDesk {
 
 impl DriveDesk {
     ghost use Rattle.std.specs.Prelude.{◌≡◌, List, [], OnOk, OnErr, IfOk, Some, None, MatchResult};
-    ghost use Rattle.opalport_c.specs.Desks.{numbers_at, last_bytes, command_fault, completion_fault, payload_count, expected_count, TakesCommand, CompletesHeld, IsFirstFault, IsRefusedAs, IsTakenAs, IsFinishedAs, IsResetAs, IsNewDesk};
+    ghost use Rattle.opalport_c.specs.Desks.{numbers_at, last_bytes, command_fault, completion_fault, payload_count, expected_count, TakesCommand, CompletesHeld, IsFirstFault, IsRefusedAs, IsTakenAs, IsFinishedAs, IsResetAs, IsNewDesk, laid_data};
     ghost use Rattle.library_calls.specs.Copies.{IsCopied};
     ghost use Rattle.opalport_c.specs.Failures.{failure_numbers};
     ghost use Rattle.library_calls.specs.declared.byte_calls.error.CallError.TheVariants.{OutOfMemory};
@@ -178,6 +178,36 @@ impl DriveDesk {
             Ok(()) => self.answer(),
             Err(error) => Answer::refused(error),
         }
+    }
+
+    /// Puts the data of an answer at the front of a buffer, where they have room there.
+    fn lay_data(&self, answer: &Answer, into: &mut [u8])
+        ensures { into.new ≡ laid_data answer.now self.now into.old }
+    {
+        let data = self.last_data();
+        if answer.code == DONE && data.len() <= into.len() {
+            into[..data.len()].copy_from_slice(data);
+        }
+    }
+
+    /// [`DriveDesk::take_command`], with the data of the answer in a buffer.
+    pub fn take_command_into(&mut self, fis: &[u8], payload: &[u8], into: &mut [u8]) -> Answer
+        ensures taken { IsTakenAs self.old self.new fis.now payload.now result }
+        ensures laid { into.new ≡ laid_data result self.new into.old }
+    {
+        let told = self.take_command(fis, payload);
+        self.lay_data(&told, into);
+        told
+    }
+
+    /// [`DriveDesk::finish`], with the data of the answer in a buffer.
+    pub fn finish_into(&mut self, tag: u8, payload: &[u8], into: &mut [u8]) -> Answer
+        ensures finished { IsFinishedAs self.old self.new tag payload.now result }
+        ensures laid { into.new ≡ laid_data result self.new into.old }
+    {
+        let told = self.finish(tag, payload);
+        self.lay_data(&told, into);
+        told
     }
 
     /// How many bytes a command brings, by its FIS.

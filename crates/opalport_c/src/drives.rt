@@ -6,7 +6,7 @@ ghost use Rattle.opalport_c.specs.Asked.{CanBe, ConfigAsked, IsMakingFault, Star
 ghost use Rattle.opalport_c.specs.Desks.{IsNewDesk};
 ghost use Rattle.opalport_c.specs.declared.drive_desk.DriveDesk.{DriveDesk};
 ghost use Rattle.opalport_c.specs.declared.object.Object.TheVariants as objects;
-ghost use Rattle.opalport_c.specs.Calls.{AcceptsBy, FinishesBy, Resets, CountsPayload, CountsExpected, TellsFailure, CopiesData, CopiesDenial, MakesDrive};
+ghost use Rattle.opalport_c.specs.Calls.{AcceptsBy, AcceptsInto, FinishesBy, FinishesInto, Resets, CountsPayload, CountsExpected, TellsFailure, CopiesData, CopiesDenial, MakesDrive};
 ghost use Rattle.library_calls.specs.Refusals.{done_code, code_of_call};
 ghost use Rattle.library_calls.specs.declared.byte_calls.error.CallError.TheVariants.{NotOpen, OutOfMemory};
 
@@ -144,6 +144,47 @@ pub extern "C" fn opal_raw_drive_complete(
         return Answer::refused(CallError::NotOpen);
     };
     let told = object.finish(tag, payload);
+    handle.put(object);
+    told
+}
+
+/// [`opal_raw_drive_accept`], with the data of the answer at the front of a buffer, where they have room there. A buffer that
+/// is too short is as before: [`opal_raw_drive_data`] gives the data then.
+#[unsafe(no_mangle)]
+pub extern "C" fn opal_raw_drive_accept_into(
+    handle: &mut Handle,
+    alloc: Global,
+    fis: &[u8],
+    payload: &[u8],
+    into: &mut [u8],
+) -> Answer
+    ensures { AcceptsInto handle.old.place.kept handle.new.place.kept fis.now payload.now
+        into.old into.new result }
+{
+    let Some(mut object) = handle.take(alloc) else {
+        return Answer::refused(CallError::NotOpen);
+    };
+    let told = object.take_command_into(fis, payload, into);
+    handle.put(object);
+    told
+}
+
+/// [`opal_raw_drive_complete`], with the data of the answer in a buffer, as [`opal_raw_drive_accept_into`] has it.
+#[unsafe(no_mangle)]
+pub extern "C" fn opal_raw_drive_complete_into(
+    handle: &mut Handle,
+    alloc: Global,
+    tag: u8,
+    payload: &[u8],
+    into: &mut [u8],
+) -> Answer
+    ensures { FinishesInto handle.old.place.kept handle.new.place.kept tag payload.now
+        into.old into.new result }
+{
+    let Some(mut object) = handle.take(alloc) else {
+        return Answer::refused(CallError::NotOpen);
+    };
+    let told = object.finish_into(tag, payload, into);
     handle.put(object);
     told
 }

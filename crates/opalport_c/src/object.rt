@@ -8,7 +8,7 @@ ghost use Rattle.library_calls.specs.Refusals.{code_of_call};
 ghost use Rattle.library_calls.specs.declared.byte_calls.error.CallError.TheVariants.{OutOfMemory};
 ghost use Rattle.opalport_c.specs.Answers.{refused_answer};
 ghost use Rattle.opalport_c.specs.Denials.{denial_at};
-ghost use Rattle.opalport_c.specs.Desks.{IsTakenAs, IsFinishedAs, IsResetAs, payload_count, expected_count, last_bytes};
+ghost use Rattle.opalport_c.specs.Desks.{IsTakenAs, IsFinishedAs, IsResetAs, payload_count, expected_count, last_bytes, laid_data};
 ghost use Rattle.opalport_c.specs.Failures.{failure_numbers, refused_failure};
 
 use crate::answer::Answer;
@@ -61,6 +61,37 @@ impl Object {
     {
         match self {
             Object::Drive(desk) => desk.finish(tag, payload),
+            Object::Port(_) | Object::Hba(_) => Answer::refused(CallError::OtherKind),
+        }
+    }
+
+    /// [`Object::take_command`], with the data of the answer in a buffer.
+    pub(crate) fn take_command_into(
+        &mut self,
+        fis: &[u8],
+        payload: &[u8],
+        into: &mut [u8],
+    ) -> Answer
+        ensures { OfDrive self.old self.new
+            (λ e. (result ≡ refused_answer e) × (into.new ≡ into.old))
+            (λ d e. IsTakenAs d e fis.now payload.now result
+            × (into.new ≡ laid_data result e into.old)) }
+    {
+        match self {
+            Object::Drive(desk) => desk.take_command_into(fis, payload, into),
+            Object::Port(_) | Object::Hba(_) => Answer::refused(CallError::OtherKind),
+        }
+    }
+
+    /// [`Object::finish`], with the data of the answer in a buffer.
+    pub(crate) fn finish_into(&mut self, tag: u8, payload: &[u8], into: &mut [u8]) -> Answer
+        ensures { OfDrive self.old self.new
+            (λ e. (result ≡ refused_answer e) × (into.new ≡ into.old))
+            (λ d e. IsFinishedAs d e tag payload.now result
+            × (into.new ≡ laid_data result e into.old)) }
+    {
+        match self {
+            Object::Drive(desk) => desk.finish_into(tag, payload, into),
             Object::Port(_) | Object::Hba(_) => Answer::refused(CallError::OtherKind),
         }
     }

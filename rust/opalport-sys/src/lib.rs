@@ -301,6 +301,25 @@ extern "C" {
     ) -> Answer;
     /// `opal_drive_complete` of the header.
     pub fn opal_raw_drive_complete(handle: *mut Handle, tag: u8, payload: *const u8, payload_length: usize) -> Answer;
+    /// `opal_drive_accept_into` of the header.
+    pub fn opal_raw_drive_accept_into(
+        handle: *mut Handle,
+        fis: *const u8,
+        fis_length: usize,
+        payload: *const u8,
+        payload_length: usize,
+        into: *mut u8,
+        length: usize,
+    ) -> Answer;
+    /// `opal_drive_complete_into` of the header.
+    pub fn opal_raw_drive_complete_into(
+        handle: *mut Handle,
+        tag: u8,
+        payload: *const u8,
+        payload_length: usize,
+        into: *mut u8,
+        length: usize,
+    ) -> Answer;
     /// `opal_drive_reset` of the header.
     pub fn opal_raw_drive_reset(handle: *mut Handle, kind: u32) -> u32;
     /// `opal_drive_payload` of the header.

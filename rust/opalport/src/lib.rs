@@ -641,6 +641,16 @@ impl Drop for Object {
     }
 }
 
+/// What an answer tells, whose data stand in a buffer of so many bytes.
+fn told_within(told: raw::Answer, room: usize) -> Result<Told, Error> {
+    Error::check(told.code)?;
+    let raw::Answer { status, error, held, denied, length, .. } = told;
+    if length > room {
+        return Err(Error::Room);
+    }
+    Ok(Told { status, error, held, denied, length })
+}
+
 /// A self-locking drive.
 pub struct Drive {
     object: Object,
@@ -675,30 +685,35 @@ impl Drive {
     /// [`Drive::accept`], with the data put into a buffer. Where they have no room there, the command is done, and the error is
     /// [`Error::Room`].
     pub fn accept_into(&mut self, fis: &[u8; FIS_LENGTH], payload: &[u8], into: &mut [u8]) -> Result<Told, Error> {
-        // SAFETY: as in `accept`.
+        // SAFETY: as in `accept`; nothing else borrows the buffer.
         let told = unsafe {
-            raw::opal_raw_drive_accept(&mut self.object.handle, fis.as_ptr(), FIS_LENGTH, payload.as_ptr(), payload.len())
+            raw::opal_raw_drive_accept_into(
+                &mut self.object.handle,
+                fis.as_ptr(),
+                FIS_LENGTH,
+                payload.as_ptr(),
+                payload.len(),
+                into.as_mut_ptr(),
+                into.len(),
+            )
         };
-        self.told_into(told, into)
+        told_within(told, into.len())
     }
 
     /// [`Drive::complete`], with the data put into a buffer, as [`Drive::accept_into`] does.
     pub fn complete_into(&mut self, tag: u8, payload: &[u8], into: &mut [u8]) -> Result<Told, Error> {
-        // SAFETY: as in `accept`.
-        let told =
-            unsafe { raw::opal_raw_drive_complete(&mut self.object.handle, tag, payload.as_ptr(), payload.len()) };
-        self.told_into(told, into)
-    }
-
-    fn told_into(&mut self, told: raw::Answer, into: &mut [u8]) -> Result<Told, Error> {
-        Error::check(told.code)?;
-        if told.length > 0 {
-            // SAFETY: the handle is this drive's own, and the buffer is there for the call.
-            let copied = unsafe { raw::opal_raw_drive_data(&mut self.object.handle, into.as_mut_ptr(), into.len()) };
-            Error::check(copied.code)?;
-        }
-        let raw::Answer { status, error, held, denied, length, .. } = told;
-        Ok(Told { status, error, held, denied, length })
+        // SAFETY: as in `accept_into`.
+        let told = unsafe {
+            raw::opal_raw_drive_complete_into(
+                &mut self.object.handle,
+                tag,
+                payload.as_ptr(),
+                payload.len(),
+                into.as_mut_ptr(),
+                into.len(),
+            )
+        };
+        told_within(told, into.len())
     }
 
     /// What the drive is made with.
