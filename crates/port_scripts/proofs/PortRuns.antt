@@ -51,24 +51,26 @@ stepped-so : (A : Type 0) (done : Result A PortError) (reason rule : Option Port
     → OnErr done (new.port ≡ old.port) → OnErr done (new.made ≡ old.made)
     → Refuses done before after → reason ≡ refusal_in done
     → PortHas new o before after (stepped o list step rule) × (reason ≡ rule)
-stepped-so A (Ok a) reason rule old new o list step before after told runs does kept made prints is =
-    (subst (λ (r : Option PortError). PortHas new o before after (stepped o list step r))
-    (sym told) does,
-    is ∙ sym told)
+stepped-so A (Ok a) reason rule old new o list step before after told runs does kept made prints is = (
+  subst (λ (r : Option PortError). PortHas new o before after (stepped o list step r))
+      (sym told) does,
+  is ∙ sym told,
+)
 stepped-so A (Err error) reason rule old new o list step before after (inl memory) runs does kept
     made prints is =
     absurd (prints.told memory.0)
 stepped-so A (Err error) reason rule old new o list step before after (inr so) runs does kept made
-    prints is =
-    (subst (λ (r : Option PortError). PortHas new o before after (stepped o list step r))
-    (sym so) (record {
-      runs = record {
-        stands = subst (λ (port : LiveState). LiveAgrees port o list) (sym kept) runs.stands;
-        made = made ∙ runs.made;
-      };
-      prints = prints.prints;
-    }),
-    is ∙ sym so)
+    prints is = (
+      subst (λ (r : Option PortError). PortHas new o before after (stepped o list step r))
+          (sym so) (record {
+            runs = record {
+              stands = subst (λ (port : LiveState). LiveAgrees port o list) (sym kept) runs.stands;
+              made = made ∙ runs.made;
+            };
+            prints = prints.prints;
+          }),
+      is ∙ sym so,
+    )
 
 -- a port that made a step has made one more
 runs-on : (new : PortPhase) (port : LiveState) (o : Origin) (list : List Step) (step : Step) (number : ℕ)
@@ -310,10 +312,11 @@ full-so (Ok reason) phase step before after full prints is = λ o list runs.
     let refused : refusal ms step ≡ Some HistoryFull =
     ap (λ (b : Bool). refusal_by (not b) (is_some (failed ms)) (stage ms) step)
     (le-ltb (length ms) most_steps long)
-    ∙ when-full (is_some (failed ms)) (stage ms) step in
-    (subst (λ (r : Option PortError). PortHas phase o before after (stepped o list step r))
-    (sym refused) (record { runs = runs; prints = prints.prints }),
-    is ∙ sym refused)
+    ∙ when-full (is_some (failed ms)) (stage ms) step in (
+      subst (λ (r : Option PortError). PortHas phase o before after (stepped o list step r))
+          (sym refused) (record { runs = runs; prints = prints.prints }),
+      is ∙ sym refused,
+    )
 full-so (Err e) phase step before after full prints is = tt
 
 -- and before that it is as one that is never full

@@ -373,11 +373,7 @@ impl PortPhase {
     }
 
     /// Does a step for which there is room.
-    fn make(
-        &mut self,
-        step: &Step,
-        report: &mut Report,
-    ) -> Result<Option<PortError>, AllocError>
+    fn make(&mut self, step: &Step, report: &mut Report) -> Result<Option<PortError>, AllocError>
         ensures { IfOk result (PortMakes refusal_with_room step.now
             self.old self.new report.old report.new) }
     {
