@@ -1,6 +1,6 @@
 -- What is told behind a step of a port, by whether it was refused.
 use Rattle.std.proofs.Common.{◌≡◌, ◌∙◌, ℕ, List, ◌∷◌, ◌++◌, Option, Some, None, Ok, Result, refl, sym, ap, subst}
-use Rattle.std.specs.Prelude.{option_map, slice_get, slice_index}
+use Rattle.std.specs.Prelude.{slice_index}
 use Rattle.fis.specs.Types.{h2d_type}
 use Rattle.slots.specs.Fetch.{fetched}
 use Rattle.slots.specs.declared.error.FetchError.{FetchError}
@@ -8,9 +8,9 @@ use Rattle.slots.specs.declared.fetched.Fetched.{Fetched}
 use Rattle.history.specs.Answers.{payload_of}
 use Rattle.history.specs.History.{Accept}
 use Rattle.history.specs.Opening.{Origin}
-use Rattle.port.specs.Agreement.{PortAgrees}
 use Rattle.port.specs.Answers.{buffer_front}
-use Rattle.port.specs.State.{PortState}
+use Rattle.port.specs.Live.{LiveAgrees, LiveState, line_kept}
+use Rattle.port.specs.State.{BareState}
 use Rattle.port_history.specs.Steps.{acts, trace}
 use Rattle.port_history.specs.declared.error.PortError.{PortError}
 use Rattle.port_history.specs.declared.step.Step.{Step}
@@ -30,7 +30,7 @@ fetched-same : (command f : Fetched) → ◌≡◌ {A = Result Fetched FetchErro
 fetched-same command f same = cc same
 
 -- what a port fetched is what its acceptance brings
-pub brings-fetched : (port : PortState) (brought : Brought) (tag : ℕ) (command : Fetched)
+pub brings-fetched : (port : BareState) (brought : Brought) (tag : ℕ) (command : Fetched)
     → fetched port.memory tag ≡ Ok command
     → (slice_index command.fis 0 ≡ h2d_type → brought.cause ≡ cause_of (Accept command.fis brought.payload.items))
     → brought.payload.items ≡ buffer_front port.memory tag (payload_of port.drive.tper.store.config command.fis)
@@ -44,45 +44,47 @@ brings-fetched port brought tag command is cause payload = λ f so kind.
     )
 
 -- what is told of an accepted command is what is told behind its step
-pub reasons-accepted : (port : PortState) (ahead : Ahead) (o : Origin) (past : List LinedStep) (step : Step) (tag : ℕ)
-    → step ≡ steps.Accept tag → PortAgrees port o (step ∷ bare_steps past) → IsAhead ahead o past step
+pub reasons-accepted : (port : LiveState) (ahead : Ahead) (o : Origin) (past : List LinedStep) (step : Step) (tag : ℕ)
+    → step ≡ steps.Accept tag → LiveAgrees port o (step ∷ bare_steps past) → IsAhead ahead o past step
     → denial_text Steps o (steps_done o past) (acts o (step ∷ bare_steps past)) (command_put ahead.put)
-    ahead.brought.payload.items (line_denial (slice_get port.audit ahead.place)) port.rule
+    ahead.brought.payload.items (line_denial (line_kept port ahead.place)) port.bare.rule
     ≡ reasons_by o past step None
 reasons-accepted port ahead o past step tag is agrees it =
     subst
-    (λ (s : Step). PortAgrees port o (s ∷ bare_steps past) → IsAhead ahead o past s
+    (λ (s : Step). LiveAgrees port o (s ∷ bare_steps past) → IsAhead ahead o past s
     → denial_text Steps o (steps_done o past) (acts o (s ∷ bare_steps past)) (command_put ahead.put)
-    ahead.brought.payload.items (line_denial (slice_get port.audit ahead.place)) port.rule
+    ahead.brought.payload.items (line_denial (line_kept port ahead.place)) port.bare.rule
     ≡ reasons_by o past s None)
     (sym is) (accepted-so port ahead o past tag) agrees it
 
-same-text : (text other : List ℕ) → ◌≡◌ {A = Option (List ℕ)} (Some text) (Some other) → text ≡ other
-same-text text other same = cc same
+same-error : (a b : PortError) → ◌≡◌ {A = Option PortError} (Some a) (Some b) → a ≡ b
+same-error a b same = cc same
 
 -- a step that was refused
 pub explains-refused : (o : Origin) (past : List LinedStep) (step : Step) (line : ℕ) (refused : Option PortError)
-    (text : List ℕ) (kept : KeptReasons) (before after : Report)
-    → ◌≡◌ {A = Option (List ℕ)} (Some text) (option_map (step_refusal_text (trace o (bare_steps past)) step) refused)
-    → after.pending.items ≡ before.pending.items ++ text → RecountsAll kept o (steps_done o past)
-    → ExplainsStep o past step line refused kept before after
-explains-refused o past step line (Some error) text kept before after is more recounts = record {
+    (error : PortError) (text : List ℕ) (port : LiveState) (kept : KeptReasons) (before after : Report)
+    → refused ≡ Some error → after.pending.items ≡ before.pending.items ++ text
+    → LiveAgrees port o (bare_steps (steps_behind past line step refused))
+    → ((o : Origin) (list : List Step) → LiveAgrees port o list → text ≡ step_refusal_text (trace o list) step error)
+    → RecountsAll kept o (steps_done o past) → ExplainsStep o past step line refused kept before after
+explains-refused o past step line (Some reason) error text port kept before after is more agrees tells recounts = record {
   recounts = recounts;
   pending = more
       ∙ ap (λ (t : List ℕ). before.pending.items ++ t)
-      (same-text text (step_refusal_text (trace o (bare_steps past)) step error) is);
+      (tells o (bare_steps past) agrees
+      ∙ ap (step_refusal_text (trace o (bare_steps past)) step) (sym (same-error reason error is)));
 }
-explains-refused o past step line None text kept before after is more recounts = absurd (cc is)
+explains-refused o past step line None error text port kept before after is more agrees tells recounts =
+    absurd (cc is)
 
 -- and one that was done
 pub explains-done : (o : Origin) (past : List LinedStep) (step : Step) (line : ℕ) (refused : Option PortError)
-    (text : List ℕ) (port : PortState) (ahead : Ahead) (kept : KeptReasons) (before after : Report)
-    → ◌≡◌ {A = Option (List ℕ)} None (option_map (step_refusal_text (trace o (bare_steps past)) step) refused)
-    → after.pending.items ≡ before.pending.items ++ text
+    (text : List ℕ) (port : LiveState) (ahead : Ahead) (kept : KeptReasons) (before after : Report)
+    → refused ≡ None → after.pending.items ≡ before.pending.items ++ text
     → (refused ≡ None → IsAhead ahead o past step)
-    → PortAgrees port o (bare_steps (steps_behind past line step refused))
-    → (PortAgrees port o (step ∷ bare_steps past) → IsAhead ahead o past step → text ≡ reasons_by o past step None)
-    → (PortAgrees port o (step ∷ bare_steps past) → IsAhead ahead o past step
+    → LiveAgrees port o (bare_steps (steps_behind past line step refused))
+    → (LiveAgrees port o (step ∷ bare_steps past) → IsAhead ahead o past step → text ≡ reasons_by o past step None)
+    → (LiveAgrees port o (step ∷ bare_steps past) → IsAhead ahead o past step
     → RecountsAll kept o (steps_done o (steps_behind past line step None)))
     → ExplainsStep o past step line refused kept before after
 explains-done o past step line None text port ahead kept before after is more before-it agrees tells notes = record {

@@ -21,25 +21,15 @@ use Rattle.drive_scripts.specs.declared.turn.Turn.{Turn}
 use Rattle.drive_scripts.specs.declared.turn.Turn.TheVariants as turns
 use Rattle.drive_scripts.proofs.Printed.{plainly, with-reasons}
 use Rattle.port_scripts.specs.PortActs.{LinedStep, bare_steps, steps_done}
-use Rattle.port_scripts.specs.PortCourses.{PortCourse, OnPort, ExplainedPort, DeskRunsOn, KeepsCourse, KeepsPort, PortSteps, explained_port, on_port, port_course_step, port_start, port_step, port_step_by, step_said}
-use Rattle.port_scripts.specs.PortEffects.{PortEffect, PortRunsOn, PortHas, PortDoes, request_of, step_effect, step_in, stepped}
+use Rattle.port_scripts.specs.PortCourses.{PortCourse, OnPort, ExplainedPort, DeskRunsOn, KeepsCourse, KeepsPort, PortSteps, explained_port, explained_step, on_port, port_course_step, port_start, port_step, port_step_by, step_said}
+use Rattle.port.specs.Live.{LiveAgrees}
+use Rattle.port_scripts.specs.PortEffects.{PortEffect, PortRunsOn, PortHas, PortDoes, request_of, step_effect, step_in, stepped, turn_without}
 use Rattle.port_scripts.specs.PortReasons.{ExplainsStep, reasons_by, step_reasons, steps_after, steps_behind}
 use Rattle.drive_scripts.specs.Acts.{kind_named}
 use Rattle.port_scripts.specs.declared.port_desk.PortDesk.{PortDesk}
 use Rattle.port_scripts.specs.declared.port_phase.PortPhase.{PortPhase}
 
 -- a port
-
-port-goes : (turn : Turn) (new : PortPhase) (o : Origin) (before mid after : Report)
-    (effect : PortEffect) (reasons : List ℕ) → PortHas new o before mid effect
-    → after.pending.items ≡ mid.pending.items ++ reasons → after.last ≡ mid.last
-    → turn ≡ turns.Goes false → PortSteps turn (Ok effect) reasons new o before after
-port-goes turn new o before mid after effect reasons has more same is =
-    subst (λ turn. PortSteps turn (Ok effect) reasons new o before after) (sym is)
-    (record {
-      runs = has.runs;
-      tells = with-reasons before mid after effect.lines reasons has.prints more same;
-    })
 
 port-goes-plain : (turn : Turn) (new : PortPhase) (o : Origin) (before after : Report)
     (effect : PortEffect) → PortHas new o before after effect → turn ≡ turns.Goes false
@@ -122,55 +112,97 @@ pub port-steps : {E : Type 0} (r : Result Turn E) (text : List ℕ)
 port-steps r text old new before after does bad kept =
     port-by (port_line_of text) r text old new before after refl does bad kept
 
--- a line that asks for a step does it, and reasons are told behind what it printed
-step-told : (line : told_of_port.PortLine) (step : Step) (text : List ℕ) (turn : Turn) (old new : PortPhase)
-    (o : Origin) (list : List Step) (reasons : List ℕ) (before mid after : Report)
-    → step_in line ≡ Some step → after.pending.items ≡ mid.pending.items ++ reasons
-    → after.last ≡ mid.last → PortDoes line text turn old new o list before mid
-    → PortSteps turn (port_step_by o list before.last.items text line) reasons new o before after
-step-told (port_lines.Put client tag request) step text turn old new o list reasons before mid after asks more same does =
-    port-goes turn new o before mid after _ reasons does.0 more same does.1
-step-told (port_lines.Issue tag) step text turn old new o list reasons before mid after asks more same does =
-    port-goes turn new o before mid after _ reasons does.0 more same does.1
-step-told (port_lines.Accept tag) step text turn old new o list reasons before mid after asks more same does =
-    port-goes turn new o before mid after _ reasons does.0 more same does.1
-step-told (port_lines.Complete tag) step text turn old new o list reasons before mid after asks more same does =
-    port-goes turn new o before mid after _ reasons does.0 more same does.1
-step-told port_lines.Recover step text turn old new o list reasons before mid after asks more same does =
-    port-goes turn new o before mid after _ reasons does.0 more same does.1
-step-told (port_lines.Reset client kind) step text turn old new o list reasons before mid after asks more same does =
-    port-goes turn new o before mid after _ reasons does.0 more same does.1
-step-told (port_lines.Take client tag) step text turn old new o list reasons before mid after asks more same does =
-    port-goes turn new o before mid after _ reasons does.0 more same does.1
-step-told port_lines.Expect step text turn old new o list reasons before mid after asks more same does =
-    absurd (cc asks)
-step-told (port_lines.Range row) step text turn old new o list reasons before mid after asks more same does =
-    absurd (cc asks)
-
 same-value : {A : Type 0} (a b : A) → ◌≡◌ {A = Option A} (Some a) (Some b) → a ≡ b
 same-value a b same = cc same
 
--- the port has done that step, where it is lawful
-step-runs : (line : told_of_port.PortLine) (step : Step) (text : List ℕ) (turn : Turn) (old new : PortPhase)
-    (o : Origin) (list : List Step) (before mid : Report)
-    → step_in line ≡ Some step → PortDoes line text turn old new o list before mid
-    → PortRunsOn new o (step_effect o list step).steps
-step-runs (port_lines.Put client tag request) step text turn old new o list before mid asks does =
-    subst (λ (s : Step). PortRunsOn new o (step_effect o list s).steps) (same-value _ step asks) does.0.runs
-step-runs (port_lines.Issue tag) step text turn old new o list before mid asks does =
-    subst (λ (s : Step). PortRunsOn new o (step_effect o list s).steps) (same-value _ step asks) does.0.runs
-step-runs (port_lines.Accept tag) step text turn old new o list before mid asks does =
-    subst (λ (s : Step). PortRunsOn new o (step_effect o list s).steps) (same-value _ step asks) does.0.runs
-step-runs (port_lines.Complete tag) step text turn old new o list before mid asks does =
-    subst (λ (s : Step). PortRunsOn new o (step_effect o list s).steps) (same-value _ step asks) does.0.runs
-step-runs port_lines.Recover step text turn old new o list before mid asks does =
-    subst (λ (s : Step). PortRunsOn new o (step_effect o list s).steps) (same-value _ step asks) does.0.runs
-step-runs (port_lines.Reset client kind) step text turn old new o list before mid asks does =
-    subst (λ (s : Step). PortRunsOn new o (step_effect o list s).steps) (same-value _ step asks) does.0.runs
-step-runs (port_lines.Take client tag) step text turn old new o list before mid asks does =
-    subst (λ (s : Step). PortRunsOn new o (step_effect o list s).steps) (same-value _ step asks) does.0.runs
-step-runs port_lines.Expect step text turn old new o list before mid asks does = absurd (cc asks)
-step-runs (port_lines.Range row) step text turn old new o list before mid asks does = absurd (cc asks)
+-- a line that asks for a step does it
+pub does-asked : (line : told_of_port.PortLine) (step : Step) (text : List ℕ) (old new : PortPhase) (o : Origin)
+    (list : List Step) (before after : Report) → step_in line ≡ Some step
+    → PortHas new o before after (step_effect o list step)
+    → PortDoes line text (turns.Goes false) old new o list before after
+does-asked (port_lines.Put client tag request) step text old new o list before after asks has =
+    (subst (λ (s : Step). PortHas new o before after (step_effect o list s)) (sym (same-value _ step asks)) has, refl)
+does-asked (port_lines.Issue tag) step text old new o list before after asks has =
+    (subst (λ (s : Step). PortHas new o before after (step_effect o list s)) (sym (same-value _ step asks)) has, refl)
+does-asked (port_lines.Accept tag) step text old new o list before after asks has =
+    (subst (λ (s : Step). PortHas new o before after (step_effect o list s)) (sym (same-value _ step asks)) has, refl)
+does-asked (port_lines.Complete tag) step text old new o list before after asks has =
+    (subst (λ (s : Step). PortHas new o before after (step_effect o list s)) (sym (same-value _ step asks)) has, refl)
+does-asked port_lines.Recover step text old new o list before after asks has =
+    (subst (λ (s : Step). PortHas new o before after (step_effect o list s)) (sym (same-value _ step asks)) has, refl)
+does-asked (port_lines.Reset client kind) step text old new o list before after asks has =
+    (subst (λ (s : Step). PortHas new o before after (step_effect o list s)) (sym (same-value _ step asks)) has, refl)
+does-asked (port_lines.Take client tag) step text old new o list before after asks has =
+    (subst (λ (s : Step). PortHas new o before after (step_effect o list s)) (sym (same-value _ step asks)) has, refl)
+does-asked port_lines.Expect step text old new o list before after asks has = absurd (cc asks)
+does-asked (port_lines.Range row) step text old new o list before after asks has = absurd (cc asks)
+
+-- and one that asks for none changes nothing
+pub does-unasked : (line : told_of_port.PortLine) (text : List ℕ) (phase : PortPhase) (o : Origin) (list : List Step)
+    (report : Report) → step_in line ≡ None
+    → PortDoes line text (turn_without line report.last.items text) phase phase o list report report
+does-unasked (port_lines.Put client tag request) text phase o list report none = absurd (cc none)
+does-unasked (port_lines.Issue tag) text phase o list report none = absurd (cc none)
+does-unasked (port_lines.Accept tag) text phase o list report none = absurd (cc none)
+does-unasked (port_lines.Complete tag) text phase o list report none = absurd (cc none)
+does-unasked port_lines.Recover text phase o list report none = absurd (cc none)
+does-unasked (port_lines.Reset client kind) text phase o list report none = absurd (cc none)
+does-unasked (port_lines.Take client tag) text phase o list report none = absurd (cc none)
+does-unasked port_lines.Expect text phase o list report none = (refl, refl, refl)
+does-unasked (port_lines.Range row) text phase o list report none = (refl, refl, refl)
+
+-- what a line makes of the course that asks for a step
+asked-line : (line : told_of_port.PortLine) (o : Origin) (list : List Step) (last text : List ℕ) (step : Step)
+    → step_in line ≡ Some step → port_step_by o list last text line ≡ Ok (step_effect o list step)
+asked-line (port_lines.Put client tag request) o list last text step asks =
+    ap (λ (s : Step). Ok (step_effect o list s)) (same-value _ step asks)
+asked-line (port_lines.Issue tag) o list last text step asks =
+    ap (λ (s : Step). Ok (step_effect o list s)) (same-value _ step asks)
+asked-line (port_lines.Accept tag) o list last text step asks =
+    ap (λ (s : Step). Ok (step_effect o list s)) (same-value _ step asks)
+asked-line (port_lines.Complete tag) o list last text step asks =
+    ap (λ (s : Step). Ok (step_effect o list s)) (same-value _ step asks)
+asked-line port_lines.Recover o list last text step asks =
+    ap (λ (s : Step). Ok (step_effect o list s)) (same-value _ step asks)
+asked-line (port_lines.Reset client kind) o list last text step asks =
+    ap (λ (s : Step). Ok (step_effect o list s)) (same-value _ step asks)
+asked-line (port_lines.Take client tag) o list last text step asks =
+    ap (λ (s : Step). Ok (step_effect o list s)) (same-value _ step asks)
+asked-line port_lines.Expect o list last text step asks = absurd (cc asks)
+asked-line (port_lines.Range row) o list last text step asks = absurd (cc asks)
+
+asked-step : (read : Result told_of_port.PortLine LineFault) (o : Origin) (list : List Step) (last text : List ℕ)
+    (step : Step) → step_said read ≡ Some step → port_step o list last text read ≡ Ok (step_effect o list step)
+asked-step (Ok line) o list last text step asks = asked-line line o list last text step asks
+asked-step (Err fault) o list last text step asks = absurd (cc asks)
+
+asked-course : (o : Origin) (past : List LinedStep) (last : List ℕ) (number : ℕ) (text : List ℕ) (step : Step)
+    → step_said (port_line_of text) ≡ Some step
+    → explained_step o past number step ≡ port_course_step o (ExplainedPort past) last number text
+asked-course o past last number text step asks =
+    let list = bare_steps past in
+    let read = port_line_of text in
+    ap
+    (λ (r : Result PortEffect ℕ). explained_port (steps_after o past number (Some step)) (step_reasons o past (Some step)) r)
+    (sym (asked-step read o list last text step asks))
+    ∙ ap
+    (λ (s : Option Step). explained_port (steps_after o past number s) (step_reasons o past s)
+    (port_step o list last text read))
+    (sym asks)
+
+pub asked-turn : {E : Type 0} (r : Result Turn E) (step : Step) (text : List ℕ) (old new : PortPhase)
+    (kept now : KeptReasons) (number : ℕ) (before after : Report) → step_said (port_line_of text) ≡ Some step
+    → IfOk r
+    (λ turn. (o : Origin) (past : List LinedStep) → KeepsPort old kept o past
+    → StepsBy PortCourse (KeepsCourse new now o) turn (explained_step o past number step) before after)
+    → IfOk r
+    (λ turn. (o : Origin) (past : List LinedStep) → KeepsPort old kept o past
+    → StepsBy PortCourse (KeepsCourse new now o) turn
+    (port_course_step o (ExplainedPort past) before.last.items number text) before after)
+asked-turn (Ok turn) step text old new kept now number before after asks steps = λ o past keeps.
+    subst (λ course. StepsBy PortCourse (KeepsCourse new now o) turn course before after)
+    (asked-course o past before.last.items number text step asks) (steps o past keeps)
+asked-turn (Err e) step text old new kept now number before after asks steps = steps
 
 -- the steps that a step leaves behind it, and a line
 behind-is : (o : Origin) (past : List LinedStep) (number : ℕ) (step : Step) (refused : Option PortError)
@@ -253,39 +285,30 @@ no-step (Ok turn) text old new kept number before after none steps = λ o past k
     (subst (λ step. RecountsAll kept o (steps_done o (steps_after o past number step))) (sym none) keeps.recounts)
 no-step (Err e) text old new kept number before after none steps = steps
 
--- a line that asks for a step, with what is told behind it
-pub does-step : (read : Result told_of_port.PortLine LineFault) (step : Step) (text : List ℕ) (turn : Turn)
-    (old new : PortPhase) (kept : KeptReasons) (o : Origin) (past : List LinedStep) (number : ℕ)
-    (before mid after : Report)
-    → port_line_of text ≡ read → step_said read ≡ Some step → after.last ≡ mid.last
-    → ((line : told_of_port.PortLine) → port_line_of text ≡ Ok line
-    → PortDoes line text turn old new o (bare_steps past) before mid)
-    → (PortRunsOn new o (bare_steps (steps_behind past number step (refusal (trace o (bare_steps past)) step)))
-    → ExplainsStep o past step number (refusal (trace o (bare_steps past)) step) kept mid after)
-    → StepsBy PortCourse (KeepsCourse new kept o) turn
-    (port_course_step o (ExplainedPort past) before.last.items number text) before after
-does-step (Ok line) step text turn old new kept o past number before mid after reads asks same does explains =
-    let list = bare_steps past in
-    let last = before.last.items in
-    let refused = refusal (trace o list) step in
-    let told = explains
-    (subst (λ steps. PortRunsOn new o steps) (behind-is o past number step refused)
-    (step-runs line step text turn old new o list before mid asks (does line reads))) in
-    kept-steps turn (port_step o list last text (port_line_of text)) (step_reasons o past (step_said (port_line_of text)))
-    new kept o (steps_after o past number (step_said (port_line_of text))) before after
-    (subst
-    (λ read. PortSteps turn (port_step o list last text read) (step_reasons o past (step_said read)) new o before after)
-    (sym reads)
-    (subst
-    (λ asked. PortSteps turn (port_step_by o list last text line) (step_reasons o past asked) new o before after)
-    (sym asks)
-    (step-told line step text turn old new o list (reasons_by o past step refused) before mid after asks told.pending same
-    (does line reads))))
-    (read-steps (port_line_of text) o past number last text)
-    (subst (λ read. RecountsAll kept o (steps_done o (steps_after o past number (step_said read)))) (sym reads)
-    (subst (λ asked. RecountsAll kept o (steps_done o (steps_after o past number asked))) (sym asks) told.recounts))
-does-step (Err fault) step text turn old new kept o past number before mid after reads asks same does explains =
-    absurd (cc asks)
+-- a step with what is told behind it
+pub step-told : (new : PortPhase) (kept : KeptReasons) (o : Origin) (past : List LinedStep) (number : ℕ) (step : Step)
+    (reason : Option PortError) (before mid after : Report)
+    → PortHas new o before mid (step_effect o (bare_steps past) step)
+    → reason ≡ refusal (trace o (bare_steps past)) step → after.last ≡ mid.last
+    → (LiveAgrees new.port o (bare_steps (steps_behind past number step reason))
+    → ExplainsStep o past step number reason kept mid after)
+    → StepsBy PortCourse (KeepsCourse new kept o) (turns.Goes false) (explained_step o past number step) before after
+step-told new kept o past number step reason before mid after has is same explains =
+    let refused = refusal (trace o (bare_steps past)) step in
+    let behind = behind-is o past number step refused in
+    let agrees : LiveAgrees new.port o (bare_steps (steps_behind past number step reason)) =
+    subst (λ (r : Option PortError). LiveAgrees new.port o (bare_steps (steps_behind past number step r))) (sym is)
+    (subst (λ (list : List Step). LiveAgrees new.port o list) behind has.runs.stands) in
+    let told : ExplainsStep o past step number refused kept mid after =
+    subst (λ (r : Option PortError). ExplainsStep o past step number r kept mid after) is (explains agrees) in
+    record {
+      runs = record {
+        runs = subst (λ (list : List Step). PortRunsOn new o list) behind has.runs;
+        recounts = told.recounts;
+      };
+      tells = with-reasons before mid after (step_effect o (bare_steps past) step).lines (reasons_by o past step refused)
+          has.prints told.pending same;
+    }
 
 -- a port that a script runs on, with reasons or without
 

@@ -14,7 +14,7 @@ use Rattle.drive_scripts.specs.declared.turn.Turn.{Turn}
 use Rattle.drive_scripts.specs.declared.turn.Turn.TheVariants as turns
 use Rattle.drive_scripts.specs.Kept.{KeptReasons, RecountsAll}
 use Rattle.port_scripts.specs.PortActs.{LinedStep, bare_steps, steps_done}
-use Rattle.port_scripts.specs.PortEffects.{PortEffect, PortRunsOn, port_effect_of, step_in}
+use Rattle.port_scripts.specs.PortEffects.{PortEffect, PortRunsOn, port_effect_of, step_effect, step_in}
 use Rattle.port_scripts.specs.PortReasons.{step_reasons, steps_after}
 use Rattle.port_scripts.specs.declared.port_desk.PortDesk.{PortDesk}
 use Rattle.port_scripts.specs.declared.port_phase.PortPhase.{PortPhase}
@@ -62,6 +62,12 @@ abbrev pub explained_port : List LinedStep → List ℕ → Result PortEffect �
 explained_port after reasons (Ok effect) =
     Ok (record { course = ExplainedPort after; lines = effect.lines; reasons = reasons })
 explained_port after reasons (Err status) = Err status
+
+-- the same by the step that a line asks for
+abbrev pub explained_step : Origin → List LinedStep → ℕ → Step → Result (AdvanceOf PortCourse) ℕ
+explained_step o past number step =
+    explained_port (steps_after o past number (Some step)) (step_reasons o past (Some step))
+    (Ok (step_effect o (bare_steps past) step))
 
 -- what the line of a number makes of the course, or the status that it ends the run with
 abbrev pub port_course_step : Origin → PortCourse → List ℕ → ℕ → List ℕ

@@ -20,8 +20,7 @@ use Rattle.port_history.specs.declared.request.Request.TheVariants as requests
 use Rattle.port_history.specs.declared.stages.Put.{Put}
 use Rattle.port_history.specs.declared.step.Step.{Step}
 use Rattle.port_history.specs.declared.step.Step.TheVariants as steps
-use Rattle.port.specs.Agreement.{PortAgrees}
-use Rattle.port.specs.State.{PortState}
+use Rattle.port.specs.Live.{LiveAgrees}
 use Rattle.script_lines.specs.Texts.{Prints, done_text, data_text, hex_text, command_failure_text, refused_text, reset_text, audit_text, denial_lines}
 use Rattle.script_lines.specs.Lines.{expected_text}
 use Rattle.script_lines.specs.declared.port_line.PortLine as told
@@ -141,9 +140,10 @@ step_in (lines.Take client tag) = Some (steps.Take client tag)
 step_in lines.Expect = None
 step_in (lines.Range row) = None
 
--- The port is as its origin and the steps leave it.
-abbrev pub PortRunsOn : PortPhase → Origin → List Step → Type 0
-PortRunsOn phase o list = PortAgrees phase.port o list
+-- The port is as its origin and the steps leave it, and has made so many.
+pub record PortRunsOn (phase : PortPhase) (o : Origin) (list : List Step) : Type 0 where
+  pub stands : LiveAgrees phase.port o list
+  pub made : phase.made ≡ length (trace o list)
 
 -- A refusal is printed by its number, unless it is want of memory.
 pub record PrintsError (error : PortError) (before after : Report) : Type 0 where
@@ -161,17 +161,37 @@ abbrev pub PrintsStep : {A : Type 0} → (A → List ℕ) → Result A PortError
 PrintsStep text (Ok done) before after = Prints before after (text done ∷ [])
 PrintsStep text (Err error) before after = PrintsError error before after
 
+-- Why it was refused, if it was.
+abbrev pub refusal_in : {A : Type 0} → Result A PortError → Option PortError
+refusal_in (Ok done) = None
+refusal_in (Err error) = Some error
+
+-- How many steps were made behind one that answered its number.
+abbrev pub made_by : ℕ → Result ℕ PortError → ℕ
+made_by made (Ok number) = number
+made_by made (Err error) = made
+
 -- The port has done the steps, and the lines are printed.
 pub record PortHas (new : PortPhase) (o : Origin) (before after : Report)
     (effect : PortEffect) : Type 0 where
   pub runs : PortRunsOn new o effect.steps
   pub prints : Prints before after effect.lines
 
--- A line does this on whatever origin and steps the port stands, and the script goes on.
-abbrev pub PortMakes : told.PortLine → PortPhase → PortPhase → Report → Report → Turn → Type 0
-PortMakes line old new before after turn =
+-- A step is made, or refused by this rule, on whatever origin and steps the port stands; that is printed, and the reason
+-- of a refusal is told.
+abbrev pub PortMakes : (List Moment → Step → Option PortError) → Step → PortPhase → PortPhase
+    → Report → Report → Option PortError → Type 0
+PortMakes rule step old new before after reason =
     (o : Origin) (list : List Step) → PortRunsOn old o list
-    → PortHas new o before after (port_effect_of o list line) × (turn ≡ Goes false)
+    → PortHas new o before after (stepped o list step (rule (trace o list) step))
+    × (reason ≡ rule (trace o list) step)
+
+-- How the script goes on behind a line that asks for no step: a range line comes too late, and an expectation is held against
+-- the last printed line.
+abbrev pub turn_without : told.PortLine → List ℕ → List ℕ → Turn
+turn_without (lines.Range row) last text = Bad LateRange
+turn_without line last text =
+    if bytes_eq last (expected_text text) then Goes false else ExpectationFailed
 
 -- What a line does, and how the script goes on. An expectation is held against the last printed
 -- line; a range line comes too late.

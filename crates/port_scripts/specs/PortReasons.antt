@@ -10,7 +10,7 @@ use Rattle.slots.specs.declared.fetched.Fetched.{Fetched}
 use Rattle.history.specs.Answers.{payload_of}
 use Rattle.history.specs.History.{Accept}
 use Rattle.port.specs.Answers.{buffer_front}
-use Rattle.port.specs.State.{PortState}
+use Rattle.port.specs.State.{BareState}
 use Rattle.audit.specs.declared.reason.Why.{Why}
 use Rattle.audit.specs.declared.reason.AuditLine.{AuditLine}
 use Rattle.history.specs.Opening.{Origin}
@@ -135,14 +135,14 @@ pub record Brings (brought : Brought) (o : Origin) (list : List Step) (step : St
   pub payload : brought.payload.items ≡ act_payload (act_of (trace o list) step)
 
 -- the same by the command that a port fetches: its FIS, and as many bytes of the slot's buffer as it brings
-abbrev pub BringsAccepted : PortState → ℕ → Brought → Type 0
+abbrev pub BringsAccepted : BareState → ℕ → Brought → Type 0
 BringsAccepted port tag brought =
     (f : Fetched) → fetched port.memory tag ≡ Ok f → slice_index f.fis 0 ≡ h2d_type
     → (brought.cause ≡ cause_of (Accept f.fis brought.payload.items))
     × (brought.payload.items
     ≡ buffer_front port.memory tag (payload_of port.drive.tper.store.config f.fis))
 
--- what is known of a step before it is done: the command of its slot, how many lines the audit log has, and what it brings
+-- what is known of a step before it is done: the command of its slot, how many denials there were, and what it brings
 pub record IsAhead (ahead : Ahead) (o : Origin) (past : List LinedStep) (step : Step) : Type 0 where
   pub put : ahead.put ≡ put_named (trace o (bare_steps past)) step
   pub place : ahead.place ≡ length (audit (trace o (bare_steps past)))

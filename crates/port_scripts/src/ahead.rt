@@ -7,8 +7,8 @@ ghost use Rattle.fis.specs.Tags.{slot_count};
 ghost use Rattle.fis.specs.Types.{h2d_type};
 ghost use Rattle.history.specs.Opening.{Origin};
 ghost use Rattle.history.specs.Resets.{reset_kind_number};
-ghost use Rattle.port.specs.Agreement.{PortAgrees};
 ghost use Rattle.port.specs.Answers.{buffer_front, stage_at};
+ghost use Rattle.port.specs.Live.{LiveAgrees};
 ghost use Rattle.port_history.specs.Refusals.{refusal};
 ghost use Rattle.port_history.specs.Steps.{trace};
 ghost use Rattle.port_history.specs.declared.step.Step.{Step as StepOf};
@@ -18,7 +18,7 @@ ghost use Rattle.port_scripts.specs.PortReasons.{Brings, BringsAccepted, IsAhead
 
 use crate::port_reasons::slot_of;
 use fis::{H2D_LENGTH, H2D_TYPE, RegH2d, Tag};
-use port::Port;
+use port::LivePort;
 use port_history::{Put, Step};
 use reasons::explained::{Cause, cause_in};
 use slots::{BUFFER, PortMemory};
@@ -36,8 +36,8 @@ pub(crate) struct Brought {
 pub(crate) struct Ahead {
     /// The command of the slot that it names.
     pub put: Option<Put>,
-    /// How many lines the audit log has.
-    pub place: usize,
+    /// How many denials there were.
+    pub place: u64,
     pub brought: Brought,
 }
 
@@ -73,8 +73,8 @@ fn nothing(alloc: Global) -> Brought
 }
 
 /// What the acceptance of a slot's command brings.
-fn accepted(alloc: Global, port: &Port, tag: Tag) -> Result<Brought, AllocError>
-    ensures brings { IfOk result (BringsAccepted port.now tag) }
+fn accepted(alloc: Global, port: &LivePort, tag: Tag) -> Result<Brought, AllocError>
+    ensures brings { IfOk result (BringsAccepted port.now.bare tag) }
     ensures slot { tag < slot_count }
 {
     let Ok(command) = port.memory().fetch(tag) else {
@@ -87,8 +87,8 @@ fn accepted(alloc: Global, port: &Port, tag: Tag) -> Result<Brought, AllocError>
 }
 
 /// What a step brings to the drive.
-fn brought_by(alloc: Global, port: &Port, step: &Step) -> Result<Brought, AllocError>
-    ensures { IfOk result (λ brought. (o : Origin) (list : List StepOf) → PortAgrees port.now o list
+fn brought_by(alloc: Global, port: &LivePort, step: &Step) -> Result<Brought, AllocError>
+    ensures { IfOk result (λ brought. (o : Origin) (list : List StepOf) → LiveAgrees port.now o list
         → refusal (trace o list) step.now ≡ None → Brings brought o list step.now) }
 {
     match *step {
@@ -106,20 +106,20 @@ fn brought_by(alloc: Global, port: &Port, step: &Step) -> Result<Brought, AllocE
 }
 
 /// The command of a slot, if there is one.
-fn put_in_slot(port: &Port, slot: Option<Tag>) -> Option<Put>
-    ensures { result ≡ put_in_slot (stage_at port.now.slots) slot }
+fn put_in_slot(port: &LivePort, slot: Option<Tag>) -> Option<Put>
+    ensures { result ≡ put_in_slot (stage_at port.now.bare.slots) slot }
 {
     port.stage(slot?).put()
 }
 
 /// What is known of a step before it is done.
-pub(crate) fn ahead_of(alloc: Global, port: &Port, step: &Step) -> Result<Ahead, AllocError>
+pub(crate) fn ahead_of(alloc: Global, port: &LivePort, step: &Step) -> Result<Ahead, AllocError>
     ensures { IfOk result (λ ahead. (o : Origin) (past : List LinedStep)
-        → PortAgrees port.now o (bare_steps past)
+        → LiveAgrees port.now o (bare_steps past)
         → refusal (trace o (bare_steps past)) step.now ≡ None → IsAhead ahead o past step.now) }
 {
     let put = put_in_slot(port, slot_of(step));
-    let place = port.audit().len();
+    let place = port.denials();
     let brought = brought_by(alloc, port, step)?;
     Ok(Ahead {
         put,

@@ -9,4 +9,4 @@ mod port_reasons;
 
 pub use port_desk::PortDesk;
 pub use port_phase::{PortPhase, request_of};
-pub use port_reasons::{port_refusal, refusal_of, slot_refusal};
+pub use port_reasons::{port_refusal, slot_refusal};

@@ -1,53 +1,19 @@
 //! A port that a script runs on, and what is kept of it where reasons are told.
 
-ghost use Rattle.std.specs.Prelude.{◌≡◌, List, IfOk, Some};
+ghost use Rattle.std.specs.Prelude.{◌≡◌, List, IfOk};
 ghost use Rattle.history.specs.Opening.{Origin};
 ghost use Rattle.drive_scripts.specs.Turns.{StepsBy};
-ghost use Rattle.script_lines.specs.PortLines.{FitsPort, port_line_of};
+ghost use Rattle.script_lines.specs.PortLines.{port_line_of};
 ghost use Rattle.port_scripts.specs.PortActs.{LinedStep};
-ghost use Rattle.port_scripts.specs.PortCourses.{KeepsCourse, KeepsPort, PortCourse, ExplainedPort, port_course_step, step_said};
-ghost use Rattle.port_scripts.specs.PortEffects.{step_in};
+ghost use Rattle.port_scripts.specs.PortCourses.{KeepsCourse, KeepsPort, PortCourse, ExplainedPort, explained_step, port_course_step, step_said};
 
 use crate::ahead::ahead_of;
 use crate::explaining::explain_step;
-use crate::port_phase::{PortPhase, request_of};
-use crate::port_reasons::refusal_of;
-use drive_scripts::{Explainer, Turn, kind_named};
-use port::{Port, Step};
+use crate::port_phase::{PortPhase, step_in};
+use drive_scripts::{Explainer, Turn};
+use port::{LivePort, Step};
 use script_lines::{PortLine, Report};
 use std::alloc::{AllocError, Global};
-
-/// The step that a line asks for, if it asks for one.
-fn step_in(alloc: Global, line: &PortLine<'_>) -> Result<Option<Step>, AllocError>
-    requires { FitsPort line.now }
-    ensures { IfOk result (λ step. step ≡ step_in line.now) }
-{
-    let step = match line {
-        PortLine::Range(_) | PortLine::Expect => return Ok(None),
-        PortLine::Put {
-            client,
-            tag,
-            request,
-        } => Step::Put {
-            client: *client,
-            tag: *tag,
-            request: request_of(alloc, request)?,
-        },
-        PortLine::Issue { tag } => Step::Issue { tag: *tag },
-        PortLine::Accept { tag } => Step::Accept { tag: *tag },
-        PortLine::Complete { tag } => Step::Complete { tag: *tag },
-        PortLine::Recover => Step::Recover,
-        PortLine::Reset { client, kind } => Step::Reset {
-            client: *client,
-            kind: kind_named(*kind),
-        },
-        PortLine::Take { client, tag } => Step::Take {
-            client: *client,
-            tag: *tag,
-        },
-    };
-    Ok(Some(step))
-}
 
 /// The step that a line of text asks for, if it asks for one.
 fn step_said(alloc: Global, text: &[u8]) -> Result<Option<Step>, AllocError>
@@ -59,31 +25,27 @@ fn step_said(alloc: Global, text: &[u8]) -> Result<Option<Step>, AllocError>
     }
 }
 
-/// Does the step that a line asks for, and tells why it was refused, or of the command that it accepted.
+/// Does a step that the line of a number asks for, and tells why it was refused, or of the command that it accepted.
 fn stepped_turn(
     phase: &mut PortPhase,
     explainer: &mut Explainer,
     step: &Step,
     number: u64,
-    text: &[u8],
     report: &mut Report,
 ) -> Result<Turn, AllocError>
-    ensures { step_said (port_line_of text.now) ≡ Some step.now
-        → IfOk result (λ turn. (o : Origin) (past : List LinedStep)
+    ensures { IfOk result (λ turn. (o : Origin) (past : List LinedStep)
         → KeepsPort phase.old explainer.old o past
         → StepsBy PortCourse (KeepsCourse phase.new explainer.new o) turn
-        (port_course_step o (ExplainedPort past) report.old.last.items number text.now)
-        report.old report.new) }
+        (explained_step o past number step.now) report.old report.new) }
 {
     let alloc = phase.allocator();
-    let refusal = refusal_of(alloc, phase.port(), step)?;
     let ahead = ahead_of(alloc, phase.port(), step)?;
-    let turn = phase.turn(text, report)?;
+    let refused = phase.step(step, report)?;
     let port = phase.port();
     explain_step(
-        alloc, port, explainer, step, refusal, &ahead, number, report,
+        alloc, port, explainer, step, refused, &ahead, number, report,
     )?;
-    Ok(turn)
+    Ok(Turn::Goes { aborted: false })
 }
 
 /// Does what the line of a number says, and tells why its step was refused, or of the command that it accepted.
@@ -101,7 +63,7 @@ fn explained_turn(
         report.old report.new) }
 {
     match step_said(phase.allocator(), text)? {
-        Some(step) => stepped_turn(phase, explainer, &step, number, text, report),
+        Some(step) => stepped_turn(phase, explainer, &step, number, report),
         None => phase.turn(text, report),
     }
 }
@@ -135,7 +97,7 @@ impl PortDesk {
     }
 
     /// The port.
-    pub fn port(&self) -> &Port
+    pub fn port(&self) -> &LivePort
         ensures { result.now ≡ self.now.phase.port }
     {
         self.phase.port()

@@ -1,23 +1,27 @@
 //! The phase of a script that runs on a port: a port, and what the lines do with it.
 
-ghost use Rattle.std.specs.Prelude.{◌≡◌, ◌<◌, ◌≤◌, ◌∷◌, [], IfOk, OnOk, length, slice_get};
+ghost use Rattle.std.specs.Prelude.{◌≡◌, ◌<◌, ◌≤◌, ◌∷◌, [], IfOk, OnOk, length};
 ghost use Rattle.compacket.specs.Spelling.{frame_bytes};
+ghost use Rattle.port.specs.Live.{line_kept};
 ghost use Rattle.port_history.specs.declared.request.Request.TheVariants as requests;
 ghost use Rattle.script_lines.specs.Fields.{most_call_bytes, most_send_bytes};
-ghost use Rattle.script_lines.specs.PortLines.{FitsPut};
-ghost use Rattle.script_lines.specs.Texts.{Prints, done_text};
+ghost use Rattle.script_lines.specs.PortLines.{FitsPort, FitsPut};
+ghost use Rattle.script_lines.specs.Texts.{Prints};
 ghost use Rattle.drive_scripts.specs.Acts.{in_blocks, com_id_protocol};
-ghost use Rattle.port_scripts.specs.PortEffects.{same_bytes, request_of, PrintsError, PrintsStep, bytes_text, taken_text, audit_lines};
+ghost use Rattle.port_scripts.specs.PortEffects.{same_bytes, request_of, step_in, turn_without, PrintsError, bytes_text, taken_text, audit_lines};
 
-use audit::AuditLine;
 use basics::Bytes;
 use compacket::{ComId, Session, frame};
+use drive::ResetKind;
 use drive_scripts::{COM_ID_PROTOCOL, Fault, Turn, expectation, fill, kind_named, pad, shown};
 use fis::{Lba, Tag};
-use port::{Answer, Port, PortError, Put, Request};
-use script_lines::{Hex, PortLine, PutRequest, Report, Reset};
+use port::{Answer, LivePort, PortError, Put, Request, Step};
+use script_lines::{Hex, PortLine, PutRequest, Report};
 use std::alloc::{AllocError, Global};
 use trusted_cmds::{Command, SECTOR_SIZE};
+
+/// How many steps a script makes on a port: as many as a history has room for.
+const MOST_STEPS_MADE: u64 = 1_048_576;
 
 /// So many sectors whose bytes are all the same.
 fn same_bytes(alloc: Global, count: u16, byte: u8) -> Result<Bytes, AllocError>
@@ -172,28 +176,60 @@ pub fn request_of(alloc: Global, asked: &PutRequest<'_>) -> Result<Request, Allo
     }
 }
 
-/// Prints a refusal. Want of memory stays an error.
-fn print_error(error: PortError, report: &mut Report) -> Result<(), AllocError>
-    ensures { OnOk result (PrintsError error report.old report.new) }
+/// The step that a line asks for, if it asks for one.
+pub(crate) fn step_in(alloc: Global, line: &PortLine<'_>) -> Result<Option<Step>, AllocError>
+    requires { FitsPort line.now }
+    ensures { IfOk result (λ step. step ≡ step_in line.now) }
+{
+    let step = match line {
+        PortLine::Range(_) | PortLine::Expect => return Ok(None),
+        PortLine::Put {
+            client,
+            tag,
+            request,
+        } => Step::Put {
+            client: *client,
+            tag: *tag,
+            request: request_of(alloc, request)?,
+        },
+        PortLine::Issue { tag } => Step::Issue { tag: *tag },
+        PortLine::Accept { tag } => Step::Accept { tag: *tag },
+        PortLine::Complete { tag } => Step::Complete { tag: *tag },
+        PortLine::Recover => Step::Recover,
+        PortLine::Reset { client, kind } => Step::Reset {
+            client: *client,
+            kind: kind_named(*kind),
+        },
+        PortLine::Take { client, tag } => Step::Take {
+            client: *client,
+            tag: *tag,
+        },
+    };
+    Ok(Some(step))
+}
+
+/// How a script goes on behind a line that asks for no step.
+fn turn_without(line: &PortLine<'_>, text: &[u8], report: &Report) -> Turn
+    ensures { result ≡ turn_without line.now report.now.last.items text.now }
+{
+    match line {
+        PortLine::Range(_) => Turn::Bad(Fault::LateRange),
+        _ => expectation(text, report),
+    }
+}
+
+/// Prints a refusal, and gives it. Want of memory stays an error.
+fn refused(error: PortError, report: &mut Report) -> Result<Option<PortError>, AllocError>
+    ensures prints { OnOk result (PrintsError error report.old report.new) }
+    ensures gives { IfOk result (λ told. told ≡ Some error) }
 {
     match error {
         PortError::OutOfMemory => Err(AllocError),
         _ => {
             report.print_refused(error.number())?;
-            Ok(())
+            Ok(Some(error))
         }
     }
-}
-
-/// Prints that a step is done, or refused.
-fn print_step(done: Result<u64, PortError>, report: &mut Report) -> Result<(), AllocError>
-    ensures { OnOk result (PrintsStep (λ _. done_text) done report.old report.new) }
-{
-    match done {
-        Ok(_) => report.print_ok()?,
-        Err(error) => print_error(error, report)?,
-    }
-    Ok(())
 }
 
 /// Prints that a command is done, with its data.
@@ -229,58 +265,52 @@ fn print_answer(put: Option<Put>, answer: &Answer, report: &mut Report) -> Resul
     Ok(())
 }
 
-/// Prints the answer that a client took, or that it was refused.
-fn print_taken(
-    put: Option<Put>,
-    taken: Result<(u64, Answer), PortError>,
-    report: &mut Report,
-) -> Result<(), AllocError>
-    ensures { OnOk result (PrintsStep (λ r. taken_text put r.1) taken report.old report.new) }
+/// Prints the denial at a place of a port's audit log, if it is there.
+fn print_denial(port: &LivePort, place: u64, report: &mut Report) -> Result<(), AllocError>
+    ensures { OnOk result (Prints report.old report.new (audit_lines (line_kept port.now place))) }
 {
-    match taken {
-        Ok((_, answer)) => print_answer(put, &answer, report)?,
-        Err(error) => print_error(error, report)?,
-    }
-    Ok(())
-}
-
-/// Prints the line of an audit log at a place, if it has one.
-fn print_line_at(audit: &[AuditLine], place: usize, report: &mut Report) -> Result<(), AllocError>
-    ensures { OnOk result (Prints report.old report.new (audit_lines (slice_get audit.now place))) }
-{
-    if let Some(line) = audit.get(place) {
+    if let Some(line) = port.denial(place) {
         report.print_audit(line)?;
     }
     Ok(())
 }
 
-/// A port that a script runs on.
+/// A port that a script runs on. It keeps no history, and yet makes no more steps than one has room for.
 #[derive(Drop)]
 pub struct PortPhase {
-    port: Port,
+    port: LivePort,
+    /// How many steps were made.
+    made: u64,
     alloc: Global,
 }
 
 impl PortPhase {
     ghost use Rattle.std.specs.Prelude.{◌≡◌, ℕ, List, [], IfOk, OnOk, Ok, Err};
-    ghost use Rattle.script_lines.specs.PortLines.{port_line_of, FitsPort, FitsPut};
+    ghost use Rattle.script_lines.specs.PortLines.{port_line_of, FitsPort};
+    ghost use Rattle.script_lines.specs.Texts.{done_text};
     ghost use Rattle.script_lines.specs.declared.port_line.PortLine.{PortLine};
     ghost use Rattle.script_lines.specs.declared.fault.LineFault.{LineFault};
     ghost use Rattle.history.specs.Opening.{Origin};
+    ghost use Rattle.port_history.specs.Refusals.{refusal, refusal_with_room};
     ghost use Rattle.port_history.specs.declared.step.Step.{Step};
-    ghost use Rattle.port.specs.Agreement.{PortAgrees};
-    ghost use Rattle.port_scripts.specs.PortEffects.{PortRunsOn, PortMakes, PortDoes};
+    ghost use Rattle.port_history.specs.declared.step.Step.TheVariants as steps;
+    ghost use Rattle.port.specs.Live.{LiveAgrees};
+    ghost use Rattle.port_scripts.specs.PortEffects.{PortRunsOn, PortMakes, PortDoes, PrintsStep, made_by, refusal_in};
     ghost use Rattle.drive_scripts.specs.declared.turn.Fault.{Fault};
 
     /// A port on which nothing was done.
-    pub fn new(alloc: Global, port: Port) -> PortPhase
-        ensures { (o : Origin) → PortAgrees port o [] → PortRunsOn result o [] }
+    pub fn new(alloc: Global, port: LivePort) -> PortPhase
+        ensures { (o : Origin) → LiveAgrees port o [] → PortRunsOn result o [] }
     {
-        PortPhase { port, alloc }
+        PortPhase {
+            port,
+            made: 0,
+            alloc,
+        }
     }
 
     /// The port.
-    pub fn port(&self) -> &Port
+    pub fn port(&self) -> &LivePort
         ensures { result.now ≡ self.now.port }
     {
         &self.port
@@ -320,20 +350,66 @@ impl PortPhase {
         ensures { IfOk result (λ turn. (o : Origin) (list : List Step) → PortRunsOn self.old o list
             → PortDoes line.now text.now turn self.old self.new o list report.old report.new) }
     {
-        match line {
-            PortLine::Range(_) => Ok(Turn::Bad(Fault::LateRange)),
-            PortLine::Put {
+        let Some(step) = step_in(self.alloc, line)? else {
+            return Ok(turn_without(line, text, report));
+        };
+        self.step(&step, report)?;
+        Ok(Turn::Goes { aborted: false })
+    }
+
+    /// Does a step, and prints that, or that it is refused. It gives why it is refused.
+    pub fn step(
+        &mut self,
+        step: &Step,
+        report: &mut Report,
+    ) -> Result<Option<PortError>, AllocError>
+        ensures { IfOk result (PortMakes refusal step.now
+            self.old self.new report.old report.new) }
+    {
+        if self.made >= MOST_STEPS_MADE {
+            return refused(PortError::HistoryFull, report);
+        }
+        self.make(step, report)
+    }
+
+    /// Does a step for which there is room.
+    fn make(&mut self, step: &Step, report: &mut Report) -> Result<Option<PortError>, AllocError>
+        ensures { IfOk result (PortMakes refusal_with_room step.now
+            self.old self.new report.old report.new) }
+    {
+        match *step {
+            Step::Put {
                 client,
                 tag,
-                request,
-            } => self.put(*client, *tag, request, report),
-            PortLine::Issue { tag } => self.issue(*tag, report),
-            PortLine::Accept { tag } => self.accept(*tag, report),
-            PortLine::Complete { tag } => self.complete(*tag, report),
-            PortLine::Recover => self.recover(report),
-            PortLine::Reset { client, kind } => self.reset(*client, *kind, report),
-            PortLine::Take { client, tag } => self.take(*client, *tag, report),
-            PortLine::Expect => Ok(expectation(text, report)),
+                ref request,
+            } => self.put(client, tag, request, report),
+            Step::Issue { tag } => self.issue(tag, report),
+            Step::Accept { tag } => self.accept(tag, report),
+            Step::Complete { tag } => self.complete(tag, report),
+            Step::Recover => self.recover(report),
+            Step::Reset { client, kind } => self.reset(client, kind, report),
+            Step::Take { client, tag } => self.take(client, tag, report),
+        }
+    }
+
+    /// Prints that a step is done, and counts it, or prints why it is refused, and gives that.
+    fn told(
+        &mut self,
+        done: Result<u64, PortError>,
+        report: &mut Report,
+    ) -> Result<Option<PortError>, AllocError>
+        ensures prints { OnOk result (PrintsStep (λ _. done_text) done report.old report.new) }
+        ensures gives { IfOk result (λ told. told ≡ refusal_in done) }
+        ensures port { self.new.port ≡ self.old.port }
+        ensures made { OnOk result (self.new.made ≡ made_by self.old.made done) }
+    {
+        match done {
+            Ok(number) => {
+                report.print_ok()?;
+                self.made = number;
+                Ok(None)
+            }
+            Err(error) => refused(error, report),
         }
     }
 
@@ -341,67 +417,82 @@ impl PortPhase {
         &mut self,
         client: u32,
         tag: Tag,
-        asked: &PutRequest<'_>,
+        request: &Request,
         report: &mut Report,
-    ) -> Result<Turn, AllocError>
-        requires { FitsPut asked.now }
-        ensures { IfOk result (PortMakes (PortLine.Put client tag asked.now)
+    ) -> Result<Option<PortError>, AllocError>
+        ensures { IfOk result (PortMakes refusal_with_room (steps.Put client tag request.now)
             self.old self.new report.old report.new) }
     {
-        let request = request_of(self.alloc, asked)?;
-        print_step(self.port.put(client, tag, request), report)?;
-        Ok(Turn::Goes { aborted: false })
+        let done = self.port.put(client, tag, request);
+        self.told(done, report)
     }
 
-    fn issue(&mut self, tag: Tag, report: &mut Report) -> Result<Turn, AllocError>
-        ensures { IfOk result (PortMakes (PortLine.Issue tag)
+    fn issue(&mut self, tag: Tag, report: &mut Report) -> Result<Option<PortError>, AllocError>
+        ensures { IfOk result (PortMakes refusal_with_room (steps.Issue tag)
             self.old self.new report.old report.new) }
     {
-        print_step(self.port.issue(tag), report)?;
-        Ok(Turn::Goes { aborted: false })
+        let done = self.port.issue(tag);
+        self.told(done, report)
     }
 
     /// An acceptance prints the line of the audit log that comes with it, too.
-    fn accept(&mut self, tag: Tag, report: &mut Report) -> Result<Turn, AllocError>
-        ensures { IfOk result (PortMakes (PortLine.Accept tag)
+    fn accept(&mut self, tag: Tag, report: &mut Report) -> Result<Option<PortError>, AllocError>
+        ensures { IfOk result (PortMakes refusal_with_room (steps.Accept tag)
             self.old self.new report.old report.new) }
     {
-        let place = self.port.audit().len();
-        print_step(self.port.accept(tag), report)?;
-        print_line_at(self.port.audit(), place, report)?;
-        Ok(Turn::Goes { aborted: false })
+        let place = self.port.denials();
+        let done = self.port.accept(tag);
+        let told = self.told(done, report)?;
+        print_denial(&self.port, place, report)?;
+        Ok(told)
     }
 
-    fn complete(&mut self, tag: Tag, report: &mut Report) -> Result<Turn, AllocError>
-        ensures { IfOk result (PortMakes (PortLine.Complete tag)
+    fn complete(&mut self, tag: Tag, report: &mut Report) -> Result<Option<PortError>, AllocError>
+        ensures { IfOk result (PortMakes refusal_with_room (steps.Complete tag)
             self.old self.new report.old report.new) }
     {
-        print_step(self.port.complete(tag), report)?;
-        Ok(Turn::Goes { aborted: false })
+        let done = self.port.complete(tag);
+        self.told(done, report)
     }
 
-    fn recover(&mut self, report: &mut Report) -> Result<Turn, AllocError>
-        ensures { IfOk result (PortMakes PortLine.Recover
+    fn recover(&mut self, report: &mut Report) -> Result<Option<PortError>, AllocError>
+        ensures { IfOk result (PortMakes refusal_with_room steps.Recover
             self.old self.new report.old report.new) }
     {
-        print_step(self.port.recover(), report)?;
-        Ok(Turn::Goes { aborted: false })
+        let done = self.port.recover();
+        self.told(done, report)
     }
 
-    fn reset(&mut self, client: u32, kind: Reset, report: &mut Report) -> Result<Turn, AllocError>
-        ensures { IfOk result (PortMakes (PortLine.Reset client kind)
+    fn reset(
+        &mut self,
+        client: u32,
+        kind: ResetKind,
+        report: &mut Report,
+    ) -> Result<Option<PortError>, AllocError>
+        ensures { IfOk result (PortMakes refusal_with_room (steps.Reset client kind)
             self.old self.new report.old report.new) }
     {
-        print_step(self.port.reset(client, kind_named(kind)), report)?;
-        Ok(Turn::Goes { aborted: false })
+        let done = self.port.reset(client, kind);
+        self.told(done, report)
     }
 
-    fn take(&mut self, client: u32, tag: Tag, report: &mut Report) -> Result<Turn, AllocError>
-        ensures { IfOk result (PortMakes (PortLine.Take client tag)
+    fn take(
+        &mut self,
+        client: u32,
+        tag: Tag,
+        report: &mut Report,
+    ) -> Result<Option<PortError>, AllocError>
+        ensures { IfOk result (PortMakes refusal_with_room (steps.Take client tag)
             self.old self.new report.old report.new) }
     {
         let put = self.port.stage(tag).put();
-        print_taken(put, self.port.take(client, tag), report)?;
-        Ok(Turn::Goes { aborted: false })
+        match self.port.take(client, tag) {
+            Ok((number, answer)) => {
+                print_answer(put, &answer, report)?;
+                self.made = number;
+                Ok(None)
+            }
+            Err(error) => refused(error, report),
+        }
     }
 }

@@ -1,10 +1,9 @@
 //! What is told of a step of a port that is refused.
 
-ghost use Rattle.std.specs.Prelude.{◌≡◌, ◌<◌, ◌++◌, Some, List, IfSome, IfOk, OnOk, option_map};
+ghost use Rattle.std.specs.Prelude.{◌≡◌, ◌<◌, ◌++◌, Some, List, IfSome, IfOk, OnOk};
 ghost use Rattle.fis.specs.Tags.{slot_count};
 ghost use Rattle.history.specs.Opening.{Origin};
-ghost use Rattle.port.specs.Agreement.{PortAgrees};
-ghost use Rattle.port_history.specs.Refusals.{refusal};
+ghost use Rattle.port.specs.Live.{LiveAgrees};
 ghost use Rattle.port_history.specs.Steps.{trace};
 ghost use Rattle.port_history.specs.declared.step.Step.{Step as StepOf};
 ghost use Rattle.port_scripts.specs.PortActs.{slot_of};
@@ -12,7 +11,7 @@ ghost use Rattle.port_scripts.specs.PortReasons.{step_refusal_text, error_words,
 
 use basics::append_decimal;
 use fis::{SLOT_COUNT, Tag};
-use port::Port;
+use port::LivePort;
 use port_history::{PortError, Put, Stage, Step};
 use std::alloc::{AllocError, Global};
 
@@ -149,23 +148,22 @@ pub(crate) fn slot_of(step: &Step) -> Option<Tag>
     }
 }
 
-/// Why a port would refuse a step, in a line with its line feed; None where it would not.
+/// Why a port refused a step, which left it as it was, in a line with its line feed.
 ///
 /// # Errors
 ///
 /// Want of memory.
-pub fn refusal_of(alloc: Global, port: &Port, step: &Step) -> Result<Option<Vec<u8>>, AllocError>
-    ensures { IfOk result (λ text. (o : Origin) (list : List StepOf) → PortAgrees port.now o list
-        → option_map (λ t. t.items) text
-        ≡ option_map (step_refusal_text (trace o list) step.now)
-        (refusal (trace o list) step.now)) }
+pub(crate) fn step_refusal(
+    alloc: Global,
+    port: &LivePort,
+    step: &Step,
+    error: PortError,
+) -> Result<Vec<u8>, AllocError>
+    ensures { IfOk result (λ text. (o : Origin) (list : List StepOf) → LiveAgrees port.now o list
+        → text.items ≡ step_refusal_text (trace o list) step.now error) }
 {
-    let Some(error) = port.refuses(step) else {
-        return Ok(None);
-    };
-    let text = match slot_of(step) {
-        Some(tag) => slot_refusal(alloc, error, tag, port.stage(tag))?,
-        None => port_refusal(alloc, error)?,
-    };
-    Ok(Some(text))
+    match slot_of(step) {
+        Some(tag) => slot_refusal(alloc, error, tag, port.stage(tag)),
+        None => port_refusal(alloc, error),
+    }
 }

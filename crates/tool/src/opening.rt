@@ -11,7 +11,7 @@ use crate::phase::Phase;
 use crate::remarks::is_skipped;
 use drive::{Drive, DriveConfig, Opening, RangeRow, SetError};
 use drive_scripts::{DrivePhase, Fault};
-use port::Port;
+use port::LivePort;
 use port_scripts::{PortDesk, PortPhase};
 use script_lines::named_lines::call_verb_in;
 use script_lines::{Line, LineFault, PortLine};
@@ -139,7 +139,7 @@ impl OpeningPhase {
     {
         let drive = self.into_drive(alloc)?;
         // nothing but memory is refused here
-        let Ok(port) = Port::new(alloc, drive) else {
+        let Ok(port) = LivePort::new(alloc, drive) else {
             return Err(AllocError);
         };
         Ok(PortPhase::new(alloc, port))

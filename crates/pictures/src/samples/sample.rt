@@ -19,7 +19,7 @@ use crate::samples::registers::Registers;
 use drive::Drive;
 use fis::{SLOT_COUNT, Tag};
 use locking::is_shadow_up;
-use port::{Port, Stage};
+use port::{LivePort, Stage};
 use sp_cells::{RANGES, Rows, Sp};
 use std::alloc::{AllocError, Global};
 use std::marker::Model;
@@ -55,9 +55,9 @@ impl Model for Sample {
 }
 
 /// The stages of a port's slots.
-fn stages_of(alloc: Global, port: &Port) -> Result<Vec<Stage>, AllocError>
+fn stages_of(alloc: Global, port: &LivePort) -> Result<Vec<Stage>, AllocError>
     ensures { IfOk result (λ stages. stages.items
-        ≡ values_below (stage_at port.now.slots) slot_count) }
+        ≡ values_below (stage_at port.now.bare.slots) slot_count) }
 {
     let mut stages = Vec::new(alloc);
     for tag in 0..SLOT_COUNT as u8 {
@@ -107,7 +107,7 @@ impl Sample {
     ghost use Rattle.history.specs.History.{Act};
     ghost use Rattle.history.specs.Opening.{Origin};
     ghost use Rattle.drive.specs.State.{Agrees};
-    ghost use Rattle.port.specs.Agreement.{PortAgrees};
+    ghost use Rattle.port.specs.Live.{LiveAgrees};
     ghost use Rattle.port_history.specs.declared.step.Step.{Step};
     ghost use Rattle.port_history.specs.declared.stages.Stage.{Stage};
     ghost use Rattle.pictures.specs.Samples.{drive_sample, port_sample, stages_with, calls_in};
@@ -156,9 +156,9 @@ impl Sample {
     /// # Errors
     ///
     /// An allocation was refused.
-    pub fn of_port(alloc: Global, port: &Port) -> Result<Sample, AllocError>
+    pub fn of_port(alloc: Global, port: &LivePort) -> Result<Sample, AllocError>
         ensures { IfOk result (λ sample. (o : Origin) (list : List Step)
-            → PortAgrees port.now o list → sample ≡ port_sample o list) }
+            → LiveAgrees port.now o list → sample ≡ port_sample o list) }
     {
         let slots = stages_of(alloc, port)?;
         let registers = Registers::of(port.regs());

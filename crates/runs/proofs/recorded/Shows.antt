@@ -5,7 +5,7 @@ use Rattle.history.specs.Opening.{Origin}
 use Rattle.drive.specs.State.{Agrees}
 use Rattle.reasons.specs.Onsets.{bare_acts}
 use Rattle.pictures.specs.Samples.{Sample, drive_sample, port_sample}
-use Rattle.port.specs.Agreement.{PortAgrees}
+use Rattle.port.specs.Live.{LiveAgrees}
 use Rattle.port_history.specs.declared.step.Step.{Step}
 use Rattle.port_scripts.specs.PortActs.{bare_steps}
 use Rattle.port_scripts.specs.PortCourses.{OnPort, ExplainedPort}
@@ -34,9 +34,9 @@ named-samples named o (DriveScript course) sample shows runs = absurd runs
 named-samples named o (PortScript course) sample shows runs = absurd runs
 
 pub port-samples : (desk : PortDesk) (o : Origin) (course : Course) (sample : Sample)
-    → ((o : Origin) (list : List Step) → PortAgrees desk.phase.port o list → sample ≡ port_sample o list)
+    → ((o : Origin) (list : List Step) → LiveAgrees desk.phase.port o list → sample ≡ port_sample o list)
     → PhaseRunsOn (phases.Port desk) o course → sample ≡ sample_on o course
-port-samples desk o (PortScript (OnPort list)) sample shows runs = shows o list runs.0
-port-samples desk o (PortScript (ExplainedPort past)) sample shows runs = shows o (bare_steps past) runs.2.runs
+port-samples desk o (PortScript (OnPort list)) sample shows runs = shows o list runs.0.stands
+port-samples desk o (PortScript (ExplainedPort past)) sample shows runs = shows o (bare_steps past) runs.2.runs.stands
 port-samples desk o (DriveScript course) sample shows runs = absurd runs
 port-samples desk o (NamedScript known course) sample shows runs = absurd runs

@@ -10,7 +10,7 @@ use Rattle.port_scripts.proofs.ahead.accepted.Goals as goal
 
 pub returns-clause-brings : goal.returns-clause-brings
 returns-clause-brings c =
-    let port = c.args.port.now in
+    let port = c.args.port.now.bare in
     let command = c.in-Ok.command in
     brings-fetched port (record { cause = c.cause_of-cause.result; payload = c.in_ok-payload.payload }) c.args.tag command
     (subst (λ memory. fetched memory c.args.tag ≡ Ok command) c.memory.ensures.value (sym c.in-Ok.ensures.exact))

@@ -14,7 +14,7 @@ returns c = λ o past step agrees ahead kept.
     (acts o (step ∷ bare_steps past))
     (sym (c.source_of_put-source.ensures ∙ ap (source_of_put c.args.line) ahead.put))
     (sym ahead.brings.cause)
-    (subst (λ drive. Agrees drive o (acts o (step ∷ bare_steps past))) (sym c.drive.ensures) agrees.drive)
+    (subst (λ drive. Agrees drive o (acts o (step ∷ bare_steps past))) (sym c.drive.ensures) agrees.stands.drive)
     (ap (λ acts. in_force o (log o acts)) same)
     (λ sp. ap (λ acts. session_on (log o acts) sp) same)
     kept

@@ -1,9 +1,12 @@
 use Rattle.std.proofs.Common.{sym, ◌∙◌}
-use Rattle.port_scripts.proofs.PortTurns.{no-step, port-steps}
+use Rattle.port_scripts.proofs.PortTurns.{asked-turn, no-step, port-steps}
 use Rattle.port_scripts.proofs.port_desk.explained_turn.Goals as goal
 
 pub returns-in-Some : goal.returns-in-Some
-returns-in-Some c = c.stepped_turn.ensures (sym c.in_ok-step.ensures ∙ c.in-Some.is)
+returns-in-Some c =
+    asked-turn c.stepped_turn.result c.in-Some.step c.args.text.now c.args.phase.now c.stepped_turn.new.phase
+    c.args.explainer.now c.stepped_turn.new.explainer c.args.number c.args.report.now c.stepped_turn.new.report
+    (sym c.in_ok-step.ensures ∙ c.in-Some.is) c.stepped_turn.ensures
 
 pub returns-in-None : goal.returns-in-None
 returns-in-None c =

@@ -8,6 +8,6 @@ loop-tag-init c = c.new-stages.ensures.items ∙ sym (none_listed _)
 
 pub loop-tag-preserved : goal.loop-tag-preserved
 loop-tag-preserved c =
-    listed_on (stage_at c.args.port.now.slots) c.loop-tag.tag c.loop-tag.stages.items c.push.new.self.items _ c.loop-tag.invariant
-    (c.stage.ensures ∙ ap (stage_at c.args.port.now.slots) (c.low_bits.ensures ∙ low c.loop-tag.tag c.loop-tag-test.true))
+    listed_on (stage_at c.args.port.now.bare.slots) c.loop-tag.tag c.loop-tag.stages.items c.push.new.self.items _ c.loop-tag.invariant
+    (c.stage.ensures ∙ ap (stage_at c.args.port.now.bare.slots) (c.low_bits.ensures ∙ low c.loop-tag.tag c.loop-tag-test.true))
     c.in_ok-push.ensures.items

@@ -8,7 +8,7 @@ returns-then-explains c = λ o runs.
     kept-starts c.args.explains
     (record { phase = c.args.phase; explainer = Some c.new.result }) c.new.result o c.if-explains.true refl runs
     (c.new.ensures o
-    (subst (λ drive. Agrees drive o []) (sym (c.drive.ensures ∙ ap (λ port. port.drive) c.port.ensures)) runs.drive))
+    (subst (λ drive. Agrees drive o []) (sym (c.drive.ensures ∙ ap (λ port. port.bare.drive) c.port.ensures)) runs.stands.stands.drive))
 
 pub returns : goal.returns
 returns c = λ o runs.

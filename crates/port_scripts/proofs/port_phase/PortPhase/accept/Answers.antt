@@ -1,13 +1,10 @@
-use Rattle.std.proofs.Common.{refl}
 use Rattle.port_scripts.proofs.PortRuns.{accept-so}
 use Rattle.port_scripts.proofs.port_phase.PortPhase.accept.Goals as goal
 
 pub returns : goal.returns
-returns c = λ o list runs. (
-  accept-so c.accept.result c.args.self.now _ o list c.args.tag c.args.report.now
-      c.print_step.new.report c.print_line_at.new.report
-      c.accept.ensures.refused c.accept.ensures.agrees c.accept.ensures.err
-      c.in_ok-print_step.ensures
-      (rw (c.audit.ensures, c.audit-place.ensures) at c.in_ok-print_line_at.ensures) runs,
-  refl,
-)
+returns c =
+    accept-so c.accept-done.result c.in_ok-told.told c.args.self.now _ _ c.args.tag c.denials-place.result c.args.report.now
+    c.told.new.report c.print_denial.new.report c.denials-place.ensures.told
+    c.accept-done.ensures.refused c.accept-done.ensures.agrees c.accept-done.ensures.number c.accept-done.ensures.err
+    c.told.ensures.port c.in_ok-told.ensures.made c.in_ok-told.ensures.gives c.in_ok-told.ensures.prints
+    c.in_ok-print_denial.ensures

@@ -1,22 +1,18 @@
+use Rattle.std.proofs.Common.{refl, sym, ◌∙◌, subst}
+use Rattle.port_scripts.specs.PortEffects.{PortDoes}
+use Rattle.port_scripts.proofs.PortTurns.{does-asked, does-unasked}
 use Rattle.port_scripts.proofs.port_phase.PortPhase.act.Goals as goal
 
-pub returns-in-Put : goal.returns-in-Put
-returns-in-Put c = rw c.in-Put.is c.put.ensures
+pub returns-in_default : goal.returns-in_default
+returns-in_default c = λ o list runs.
+    subst
+    (λ turn. PortDoes c.args.line.now c.args.text.now turn c.args.self.now c.args.self.now o list c.args.report.now
+    c.args.report.now)
+    (sym c.turn_without.ensures)
+    (does-unasked c.args.line.now c.args.text.now c.args.self.now o list c.args.report.now
+    (sym c.in_ok-step_in.ensures ∙ c.in_default.is))
 
-pub returns-in-Issue : goal.returns-in-Issue
-returns-in-Issue c = rw c.in-Issue.is c.issue.ensures
-
-pub returns-in-Accept : goal.returns-in-Accept
-returns-in-Accept c = rw c.in-Accept.is c.accept.ensures
-
-pub returns-in-Complete : goal.returns-in-Complete
-returns-in-Complete c = rw c.in-Complete.is c.complete.ensures
-
-pub returns-in-Recover : goal.returns-in-Recover
-returns-in-Recover c = rw c.in-Recover.is c.recover.ensures
-
-pub returns-in-Reset : goal.returns-in-Reset
-returns-in-Reset c = rw c.in-Reset.is c.reset.ensures
-
-pub returns-in-Take : goal.returns-in-Take
-returns-in-Take c = rw c.in-Take.is c.take.ensures
+pub returns : goal.returns
+returns c = λ o list runs.
+    does-asked c.args.line.now c.in-Some.step c.args.text.now c.args.self.now c.step.new.self o list c.args.report.now
+    c.step.new.report (sym c.in_ok-step_in.ensures ∙ c.in-Some.is) (c.in_ok-step.ensures o list runs).0

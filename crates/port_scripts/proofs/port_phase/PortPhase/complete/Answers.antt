@@ -1,13 +1,11 @@
 use Rattle.std.proofs.Common.{refl}
 use Rattle.port_history.specs.declared.step.Step.TheVariants as steps
-use Rattle.port_scripts.proofs.PortRuns.{done-so}
+use Rattle.port_scripts.proofs.PortRuns.{told-so}
 use Rattle.port_scripts.proofs.port_phase.PortPhase.complete.Goals as goal
 
 pub returns : goal.returns
-returns c = λ o list runs. (
-  done-so c.complete.result c.args.self.now _ o list (steps.Complete c.args.tag) c.args.report.now
-      c.print_step.new.report refl c.complete.ensures.refused c.complete.ensures.agrees
-      c.complete.ensures.err
-      c.in_ok-print_step.ensures runs,
-  refl,
-)
+returns c =
+    told-so c.told.result c.complete-done.result c.args.self.now _ _ (steps.Complete c.args.tag)
+    c.args.report.now c.told.new.report (λ o list. refl)
+    c.complete-done.ensures.refused c.complete-done.ensures.agrees c.complete-done.ensures.number c.complete-done.ensures.err
+    c.told.ensures.prints c.told.ensures.gives c.told.ensures.port c.told.ensures.made

@@ -1,14 +1,11 @@
 use Rattle.std.proofs.Common.{refl}
 use Rattle.port_history.specs.declared.step.Step.TheVariants as steps
-use Rattle.port_scripts.proofs.PortRuns.{done-so}
+use Rattle.port_scripts.proofs.PortRuns.{told-so}
 use Rattle.port_scripts.proofs.port_phase.PortPhase.reset.Goals as goal
 
 pub returns : goal.returns
-returns c = λ o list runs. (
-  rw (← c.kind_named.ensures) (done-so c.reset.result c.args.self.now _ o list
-      (steps.Reset c.args.client c.kind_named.result) c.args.report.now
-      c.print_step.new.report refl c.reset.ensures.refused c.reset.ensures.agrees
-      c.reset.ensures.err
-      c.in_ok-print_step.ensures runs),
-  refl,
-)
+returns c =
+    told-so c.told.result c.reset-done.result c.args.self.now _ _ (steps.Reset c.args.client c.args.kind)
+    c.args.report.now c.told.new.report (λ o list. refl)
+    c.reset-done.ensures.refused c.reset-done.ensures.agrees c.reset-done.ensures.number c.reset-done.ensures.err
+    c.told.ensures.prints c.told.ensures.gives c.told.ensures.port c.told.ensures.made

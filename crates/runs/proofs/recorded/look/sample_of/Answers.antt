@@ -1,7 +1,7 @@
 use Rattle.std.proofs.Common.{subst, sym}
 use Rattle.std.proofs.lemmas.Result.{IfOk-weaker}
 use Rattle.drive.specs.State.{Agrees}
-use Rattle.port.specs.Agreement.{PortAgrees}
+use Rattle.port.specs.Live.{LiveAgrees}
 use Rattle.tool.specs.Courses.{PhaseRunsOn}
 use Rattle.runs.proofs.recorded.Shows.{drive-samples, named-samples, port-samples}
 use Rattle.runs.proofs.recorded.look.sample_of.Goals as goal
@@ -29,6 +29,6 @@ returns-in-Port c =
     IfOk-weaker c.of_port.result _ _
     (λ sample shows. λ o course runs.
     port-samples c.in-Port.desk o course sample
-    (λ o list agrees. shows o list (subst (λ p. PortAgrees p o list) (sym c.port.ensures) agrees))
+    (λ o list agrees. shows o list (subst (λ p. LiveAgrees p o list) (sym c.port.ensures) agrees))
     (subst (λ phase. PhaseRunsOn phase o course) c.in-Port.is runs))
     c.of_port.ensures

@@ -13,6 +13,6 @@ pub returns : goal.returns
 returns c = λ o list k.
     shows_slots (facts o (log o (acts o list))) c.in_ok-slots.slots.items _ _ _ _
     (c.in_ok-sample.ensures o (acts o list)
-    (subst (λ d. Agrees d o (acts o list)) (sym c.drive.ensures) k.drive))
-    (c.in_ok-slots.ensures ∙ listed_alike _ _ slot_count (λ tag below. (k.tags tag below).stands))
-    (ap Some (c.of-registers.ensures ∙ ap registers_of (c.regs.ensures.value ∙ k.regs)))
+    (subst (λ d. Agrees d o (acts o list)) (sym c.drive.ensures) k.stands.drive))
+    (c.in_ok-slots.ensures ∙ listed_alike _ _ slot_count (λ tag below. (k.stands.tags tag below).stands))
+    (ap Some (c.of-registers.ensures ∙ ap registers_of (c.regs.ensures.value ∙ k.stands.regs)))
