@@ -2,7 +2,7 @@
 use Rattle.std.specs.Prelude.{ℕ, ◌-◌, ◌==◌, nat_le, Bool, true, false, ◌&&◌, ◌||◌, List, [], ◌∷◌, ◌++◌, map, take, length, codes, Option, None, Some, if◌then◌else◌}
 use Rattle.std.specs.Str.{bytes_eq}
 use Rattle.script_lines.specs.Words.{nth_word, after_words}
-use Rattle.judged.specs.Transcripts.{with_line_end}
+use Rattle.judged.specs.Transcripts.{with_line_end, remarks_text}
 use Rattle.judged.specs.declared.entry.Entry.{Entry}
 
 -- a hex digit for another one, of which no bit is the same
@@ -46,7 +46,7 @@ expects line = bytes_eq (nth_word 0 line) (codes "expect")
 -- remarks behind a line
 abbrev pub other_text : Entry → List ℕ
 other_text entry =
-    if entry.number == 0 then entry.script
+    if entry.number == 0 then remarks_text entry
     else if expects entry.line then []
     else with_line_end (other_line entry.line)
 

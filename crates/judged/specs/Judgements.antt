@@ -1,14 +1,16 @@
 -- What is told of the answers of a transcript.
-use Rattle.std.specs.Prelude.{ℕ, ◌==◌, Bool, true, false, ◌&&◌, List, [], ◌∷◌, ◌++◌, length, codes, decimal, Option, None, Some, IfSome, if◌then◌else◌}
+use Rattle.std.specs.Prelude.{ℕ, ◌==◌, nat_lt, Bool, true, false, not, ◌&&◌, ◌||◌, List, [], ◌∷◌, ◌++◌, drop, length, codes, decimal, Option, None, Some, IfSome, if◌then◌else◌}
 use Rattle.std.specs.List.{fold, flat_map, count_by}
 use Rattle.std.specs.Str.{bytes_eq}
 use Rattle.sp_cells.specs.Config.{Config}
 use Rattle.tool.specs.Outcomes.{RunOutcome, Yields, ends, run_outcome_of}
 use Rattle.tool.specs.Scripts.{script_lines}
-use Rattle.judged.specs.Transcripts.{with_line_end, entries_of, script_of}
-use Rattle.judged.specs.Answers.{said_behind, reasons_behind, wanted_of}
-use Rattle.judged.specs.Blanks.{other_line, other_text, first_answer}
+use Rattle.script_lines.specs.Words.{nth_word}
+use Rattle.judged.specs.Transcripts.{line_text, entry_text, entries_of, script_of}
+use Rattle.judged.specs.Answers.{text_behind, is_receiving, reasons_told, wanted_of}
+use Rattle.judged.specs.Blanks.{other_text, first_answer}
 use Rattle.judged.specs.Freedoms.{freedom_between, freedom_name}
+use Rattle.judged.specs.declared.bench.Printed.{Printed}
 use Rattle.judged.specs.declared.entry.Entry.{Entry}
 use Rattle.judged.specs.declared.freedom.Freedom.{Freedom}
 use Rattle.judged.specs.declared.ruling.Ruling.{Ruling}
@@ -65,42 +67,67 @@ answers_verdict freedoms asked heard wanted other reasons =
 
 -- the script before a line, and the line
 abbrev pub through : List ℕ → Entry → List ℕ
-through before entry = before ++ with_line_end entry.line
+through before entry = before ++ line_text entry
 
--- what must be said to the line of an entry, behind the script before it
-abbrev pub wanted_at : Config → List ℕ → Entry → List (List ℕ)
-wanted_at config before entry =
-    wanted_of entry.answers (said_behind config before (through before entry))
+-- what the model prints for the line of an entry behind the script before it; the same where reasons are
+-- told; and what it prints where every write before wrote another byte
+abbrev pub printed_at : Config → Judging → Entry → Printed
+printed_at config judging entry = record {
+  said = text_behind false config judging.script (through judging.script entry);
+  explained = text_behind true config judging.script (through judging.script entry);
+  other = text_behind false config judging.other (judging.other ++ other_text entry);
+}
 
--- what the model says first where every write before wrote another byte
-abbrev pub other_at : Config → List ℕ → Entry → List ℕ
-other_at config other entry =
-    first_answer (said_behind config other (other ++ other_line entry.line ++ 13 ∷ 10 ∷ []))
+-- the reasons of what it prints, which stand behind it where reasons are told
+abbrev pub own_reasons : Printed → List ℕ
+own_reasons printed = drop (length printed.said) printed.explained
 
-abbrev pub entry_verdict : Config → List Freedom → List ℕ → List ℕ → Entry → Verdict
-entry_verdict config freedoms before other entry =
-    answers_verdict freedoms entry.line entry.answers (wanted_at config before entry)
-    (other_at config other entry) (reasons_behind config before (through before entry))
+-- how answers stand to what the model prints
+abbrev pub entry_verdict : List Freedom → List ℕ → Entry → Printed → Verdict
+entry_verdict freedoms asked entry printed =
+    answers_verdict freedoms entry.line entry.answers
+    (wanted_of entry.answers (script_lines printed.said))
+    (first_answer (script_lines printed.other))
+    (reasons_told entry.line (own_reasons printed) asked)
 
-abbrev pub ruling_at : Config → List Freedom → List ℕ → List ℕ → Entry → Ruling
-ruling_at config freedoms before other entry =
-    record { number = entry.number; verdict = entry_verdict config freedoms before other entry }
+-- A line whose answer tells what the drive did: behind a wrong one it may be in another state than the model. A
+-- read leaves all as it was, and so does a line that prints nothing.
+abbrev pub can_change : List ℕ → Bool
+can_change line = not (bytes_eq (nth_word 0 line) (codes "dread")
+    || bytes_eq (nth_word 0 line) (codes "identify") || bytes_eq (nth_word 0 line) (codes "range")
+    || bytes_eq (nth_word 0 line) (codes "port") || bytes_eq (nth_word 0 line) (codes "expect"))
+
+abbrev pub ruling_at : List Freedom → List ℕ → Entry → Printed → Ruling
+ruling_at freedoms asked entry printed = record {
+  number = entry.number;
+  changes = can_change entry.line;
+  verdict = entry_verdict freedoms asked entry printed;
+}
 
 -- a line without answers is not judged: what the drive said was not seen, and is taken for the model's
-abbrev pub rulings_at : Config → List Freedom → List ℕ → List ℕ → Entry → List Ruling
-rulings_at config freedoms before other entry =
-    if length entry.answers == 0 then [] else ruling_at config freedoms before other entry ∷ []
+abbrev pub rulings_at : List Freedom → List ℕ → Entry → Printed → List Ruling
+rulings_at freedoms asked entry printed =
+    if length entry.answers == 0 then [] else ruling_at freedoms asked entry printed ∷ []
+
+-- the reasons of the last line that does not receive
+abbrev pub asked_behind : List ℕ → Entry → Printed → List ℕ
+asked_behind asked entry printed = if is_receiving entry.line then asked else own_reasons printed
+
+abbrev pub entry_added : List Freedom → Judging → Entry → Printed → Judging
+entry_added freedoms judging entry printed = record {
+  script = judging.script ++ entry_text entry;
+  other = judging.other ++ other_text entry;
+  asked = asked_behind judging.asked entry printed;
+  rulings = judging.rulings ++ rulings_at freedoms judging.asked entry printed;
+}
 
 -- behind each line the model goes on by its own answer
 abbrev pub with_entry : Config → List Freedom → Judging → Entry → Judging
-with_entry config freedoms judging entry = record {
-  script = judging.script ++ entry.script;
-  other = judging.other ++ other_text entry;
-  rulings = judging.rulings ++ rulings_at config freedoms judging.script judging.other entry;
-}
+with_entry config freedoms judging entry =
+    entry_added freedoms judging entry (printed_at config judging entry)
 
 abbrev pub nothing_judged : Judging
-nothing_judged = record { script = []; other = []; rulings = [] }
+nothing_judged = record { script = []; other = []; asked = []; rulings = [] }
 
 abbrev pub rulings_of : Config → List Freedom → List Entry → List Ruling
 rulings_of config freedoms entries =
@@ -134,8 +161,26 @@ verdict_text false number (Allowed freedom) =
 verdict_text quiet number (Wrong text) =
     codes "line " ++ decimal number ++ codes ": wrong: " ++ text
 
-abbrev pub ruling_text : Bool → Ruling → List ℕ
-ruling_text quiet ruling = verdict_text quiet ruling.number ruling.verdict
+-- a wrong answer that may be a cause of others
+abbrev pub is_cause : Ruling → Bool
+is_cause ruling = is_wrong ruling.verdict && ruling.changes
+
+-- the line of the first of them
+abbrev pub first_cause : List Ruling → Option ℕ
+first_cause [] = None
+first_cause (ruling ∷ rulings) =
+    if is_cause ruling then Some ruling.number else first_cause rulings
+
+-- from which line an answer may follow
+abbrev pub follow_text : Option ℕ → ℕ → List ℕ
+follow_text None number = []
+follow_text (Some cause) number =
+    if nat_lt cause number then codes "may follow from line " ++ decimal cause ++ 10 ∷ [] else []
+
+-- what is told of an answer, and, where it is wrong, of the first cause before it
+abbrev pub ruling_text : Bool → Option ℕ → Ruling → List ℕ
+ruling_text quiet cause ruling = verdict_text quiet ruling.number ruling.verdict
+    ++ (if is_wrong ruling.verdict then follow_text cause ruling.number else [])
 
 -- a number between two words
 abbrev pub count_between : List ℕ → ℕ → List ℕ → List ℕ
@@ -149,7 +194,8 @@ summary_text rulings = count_between (codes "judged ") (length rulings) (codes "
     ++ count_between [] (how_many is_wrong rulings) (codes " wrong" ++ 10 ∷ [])
 
 abbrev pub rulings_text : Bool → List Ruling → List ℕ
-rulings_text quiet rulings = flat_map (ruling_text quiet) rulings ++ summary_text rulings
+rulings_text quiet rulings =
+    flat_map (ruling_text quiet (first_cause rulings)) rulings ++ summary_text rulings
 
 -- a wrong answer is told by the status
 abbrev pub rulings_told : Bool → List Ruling → RunOutcome

@@ -3,7 +3,7 @@ use Rattle.std.specs.Prelude.{◌≡◌, ◌≢◌, ℕ, ◌↔◌, Bool, true, 
 use Rattle.std.specs.List.{Contains, flat_map, list_all, list_any}
 use Rattle.sp_cells.specs.Config.{Config}
 use Rattle.tool.specs.Scripts.{is_skipped}
-use Rattle.judged.specs.Transcripts.{with_line_end, answer_mark, is_answer_line, holds_remarks, entries_of}
+use Rattle.judged.specs.Transcripts.{with_line_end, answer_marks, is_answer_line, holds_remarks, entries_of}
 use Rattle.judged.specs.Answers.{said_behind}
 use Rattle.judged.specs.Freedoms.{is_by, freedom_name, freedom_named}
 use Rattle.judged.specs.Judgements.{answers_verdict, is_agreement, is_wrong, rulings_of}
@@ -48,7 +48,8 @@ abbrev pub answer_line : List ℕ → List ℕ
 answer_line answer = 61 ∷ 32 ∷ answer
 
 abbrev pub marks_for : Bool → List (List ℕ) → List ℕ
-marks_for remarks answers = flat_map (λ answer. answer_mark remarks) answers
+marks_for remarks answers =
+    flat_map with_line_end (flat_map (λ answer. answer_marks remarks) answers)
 
 -- what the model says to a line behind a script
 abbrev pub said_to : Config → List ℕ → List ℕ → List (List ℕ)

@@ -4,3 +4,4 @@ pub mod Blanks
 pub mod Freedoms
 pub mod Judgements
 pub mod Laws
+pub mod Benches

@@ -24,34 +24,34 @@ answer_told (byte ∷ bytes) = behind_blank bytes
 abbrev pub with_line_end : List ℕ → List ℕ
 with_line_end line = line ++ 13 ∷ 10 ∷ []
 
--- what stands for an answer in the text of the script: where remarks may stand, one, so that the
--- lines keep their numbers
-abbrev pub answer_mark : Bool → List ℕ
-answer_mark true = with_line_end (codes "#")
-answer_mark false = []
+-- what stands for an answer in the script: where remarks may stand, one, so that the lines keep their
+-- numbers
+abbrev pub answer_marks : Bool → List (List ℕ)
+answer_marks true = codes "#" ∷ []
+answer_marks false = []
 
 -- what stands in front of the first line
 abbrev pub front_entry : Entry
-front_entry = record { number = 0; line = []; script = []; answers = [] }
+front_entry = record { number = 0; line = []; behind = []; answers = [] }
 
 -- a line of the script
 abbrev pub fresh_entry : ScriptLine → Entry
 fresh_entry line = record {
   number = line.number;
   line = line.text;
-  script = with_line_end line.text;
+  behind = [];
   answers = [];
 }
 
 abbrev pub with_answer : Bool → Entry → List ℕ → Entry
 with_answer remarks entry answer =
     record entry {
-      script = entry.script ++ answer_mark remarks;
+      behind = entry.behind ++ answer_marks remarks;
       answers = entry.answers ++ answer ∷ [];
     }
 
 abbrev pub with_remark : Entry → List ℕ → Entry
-with_remark entry text = record entry { script = entry.script ++ with_line_end text }
+with_remark entry text = record entry { behind = entry.behind ++ text ∷ [] }
 
 -- an answer belongs to the line above it, and a remark stands between
 abbrev pub is_answer : Reading → List ℕ → Bool
@@ -82,6 +82,18 @@ abbrev pub entries_of : List (List ℕ) → List Entry
 entries_of lines =
     all_entries (fold (line_added (holds_remarks lines)) nothing_read (with_numbers 0 lines))
 
+-- the line of an entry in the text of the script; in front of the first line there is none
+abbrev pub line_text : Entry → List ℕ
+line_text entry = if entry.number == 0 then [] else with_line_end entry.line
+
+-- the remarks behind it
+abbrev pub remarks_text : Entry → List ℕ
+remarks_text entry = flat_map with_line_end entry.behind
+
+-- the text of the script from the line on, up to the next
+abbrev pub entry_text : Entry → List ℕ
+entry_text entry = line_text entry ++ remarks_text entry
+
 -- the script of a transcript
 abbrev pub script_of : List Entry → List ℕ
-script_of entries = flat_map (λ (entry : Entry). entry.script) entries
+script_of entries = flat_map entry_text entries

@@ -1,66 +1,65 @@
 //! What the model answers to a line, and what of it another drive must say.
 
-ghost use Rattle.std.specs.Prelude.{◌≡◌, drop, not, ◌||◌, IfOk};
+ghost use Rattle.std.specs.Prelude.{◌≡◌, ◌++◌, ℕ, Bool, List, drop, length, not, ◌||◌, IfOk, OnOk};
 ghost use Rattle.std.specs.List.{list_any, filter};
-ghost use Rattle.judged.specs.Answers.{explained_text, said_behind, reasons_behind, is_audit, wanted_of};
+ghost use Rattle.runs.specs.Stepped.{RanTo, RunStands, WholeLines};
+ghost use Rattle.judged.specs.Answers.{text_behind, is_receiving, reasons_told, is_audit, wanted_of};
 
 use crate::text::Text;
 use basics::Bytes;
-use runs::explored::{Lines, printed_text};
+use runs::explored::Lines;
+use runs::recorded::SteppedRun;
 use script_lines::Words;
 use std::alloc::{AllocError, Global};
-use std::io;
-use tool::{Options, RunError, run_explained_script};
-
-/// What a script of these bytes prints, with the reasons of its refusals.
-fn explained_text(alloc: Global, options: &Options, text: &[u8]) -> Result<Vec<u8>, RunError>
-    ensures { IfOk result (λ printed. printed.items ≡ explained_text options.now text.now) }
-{
-    let mut printed = Vec::new(alloc);
-    run_explained_script(alloc, text, &mut printed, &mut io::sink(), options)?;
-    Ok(printed)
-}
+use tool::{Options, RunError};
 
 /// What stands behind so many bytes.
-fn behind(text: &[u8], size: usize) -> &[u8]
+pub(crate) fn behind(text: &[u8], size: usize) -> &[u8]
     ensures { result.now ≡ drop size text.now }
 {
     text.get(size..).unwrap_or(&[])
 }
 
-/// The lines that the last line of a script prints, of which `before` stands in front of it.
-pub(crate) fn said_behind(
+/// Does the lines of a text, and gives what they print.
+pub(crate) fn print_text(
     alloc: Global,
     options: &Options,
-    before: &[u8],
-    whole: &[u8],
-) -> Result<Lines, RunError>
-    ensures { IfOk result (λ said. said ≡ said_behind options.now before.now whole.now) }
+    run: &mut SteppedRun,
+    text: &[u8],
+) -> Result<Text, RunError>
+    requires stands { RunStands run.old }
+    requires whole { WholeLines text.now }
+    ensures stands { OnOk result (RunStands run.new) }
+    ensures ran { OnOk result ((explains : Bool) (before : List ℕ)
+        → RanTo run.old explains options.now before
+        → RanTo run.new explains options.now (before ++ text.now)) }
+    ensures printed { IfOk result (λ printed. (explains : Bool) (before : List ℕ)
+        → RanTo run.old explains options.now before
+        → printed ≡ text_behind explains options.now before (before ++ text.now)) }
 {
-    let size = printed_text(alloc, options, before)?.len();
-    let printed = printed_text(alloc, options, whole)?;
-    let said = Lines::of_script(alloc, behind(&printed, size))?;
-    Ok(said)
+    let size = run.printed().len();
+    run.go_on(options, text)?;
+    let mut printed = Text::new(alloc);
+    printed.append(behind(run.printed(), size))?;
+    Ok(printed)
 }
 
-/// The reasons of what it prints.
-pub(crate) fn reasons_behind(
-    alloc: Global,
-    options: &Options,
-    before: &[u8],
-    whole: &[u8],
-) -> Result<Text, RunError>
-    ensures { IfOk result (λ reasons. reasons ≡ reasons_behind options.now before.now whole.now) }
+/// Whether a line receives what the drive answers to another.
+pub(crate) fn is_receiving(line: &[u8]) -> bool
+    ensures { result ≡ is_receiving line.now }
 {
-    let printed = printed_text(alloc, options, before)?.len();
-    let size = printed_text(alloc, options, whole)?
-        .len()
-        .saturating_sub(printed);
-    let front = explained_text(alloc, options, before)?.len();
-    let explained = explained_text(alloc, options, whole)?;
-    let mut reasons = Text::new(alloc);
-    reasons.append(behind(behind(&explained, front), size))?;
-    Ok(reasons)
+    Words::new(line).next_word() == b"recv".as_slice()
+}
+
+/// The reasons that are told of a line that is wrong.
+pub(crate) fn reasons_told<'a>(line: &[u8], own: &'a [u8], asked: &'a [u8]) -> &'a [u8]
+    ensures { result.now ≡ reasons_told line.now own.now asked.now }
+{
+    if own.is_empty() && is_receiving(line) {
+        asked
+    } else {
+        own
+    }
 }
 
 /// Whether a line is of the audit.

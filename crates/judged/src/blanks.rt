@@ -103,7 +103,7 @@ pub(crate) fn append_other_text(text: &mut Text, entry: &Entry) -> Result<(), Al
 {
     let line = entry.line.as_slice();
     if entry.number == 0 {
-        return text.append(entry.script.as_slice());
+        return entry.append_remarks(text);
     }
     if expects(line) {
         return Ok(());

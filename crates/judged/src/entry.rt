@@ -1,7 +1,7 @@
 //! A line of the script, and what another drive answered to it.
 
 ghost use Rattle.std.specs.Prelude.{◌≡◌};
-ghost use Rattle.judged.specs.Transcripts.{is_answer_line, behind_blank, answer_told, answer_mark};
+ghost use Rattle.judged.specs.Transcripts.{is_answer_line, behind_blank, answer_told};
 
 use crate::text::Text;
 use basics::Bytes;
@@ -44,21 +44,14 @@ pub(crate) fn answer_told(line: &[u8]) -> &[u8]
     }
 }
 
-/// What stands for an answer in the text of the script, where remarks may stand there or not.
-fn answer_mark(remarks: bool) -> &'static [u8]
-    ensures { result.now ≡ answer_mark remarks }
-{
-    if remarks { b"#\r\n" } else { b"" }
-}
-
 /// A line of the script, and what another drive answered to it.
 #[derive(Drop)]
 pub struct Entry {
     /// The number of the line in the transcript; 0 of what stands in front of the first.
     pub number: u64,
     pub line: Bytes,
-    /// The text of the script from the line on, up to the next: behind the line stand remarks at most.
-    pub script: Text,
+    /// The remarks behind the line.
+    pub behind: Lines,
     pub answers: Lines,
 }
 
@@ -78,8 +71,8 @@ impl Model for Entries {
 }
 
 impl Entry {
-    ghost use Rattle.std.specs.Prelude.{◌≡◌, IfOk, OnOk};
-    ghost use Rattle.judged.specs.Transcripts.{front_entry, fresh_entry, with_answer, with_remark};
+    ghost use Rattle.std.specs.Prelude.{◌≡◌, ◌++◌, IfOk, OnOk};
+    ghost use Rattle.judged.specs.Transcripts.{front_entry, fresh_entry, with_answer, with_remark, line_text, remarks_text, entry_text};
 
     /// What stands in front of the first line.
     pub fn front(alloc: Global) -> Entry
@@ -88,7 +81,7 @@ impl Entry {
         Entry {
             number: 0,
             line: Bytes::from_vec(Vec::new(alloc)),
-            script: Text::new(alloc),
+            behind: Lines::new(alloc),
             answers: Lines::new(alloc),
         }
     }
@@ -99,14 +92,40 @@ impl Entry {
             ≡ fresh_entry (record { number = number; text = text.now })) }
     {
         let line = Vec::from_slice(alloc, text)?;
-        let mut script = Text::new(alloc);
-        script.append_line(text)?;
         Ok(Entry {
             number,
             line: Bytes::from_vec(line),
-            script,
+            behind: Lines::new(alloc),
             answers: Lines::new(alloc),
         })
+    }
+
+    /// Appends the line as it stands in the text of the script; in front of the first line there is none.
+    pub fn append_line_text(&self, text: &mut Text) -> Result<(), AllocError>
+        ensures { OnOk result (text.new ≡ text.old ++ line_text self.now) }
+    {
+        if self.number == 0 {
+            return Ok(());
+        }
+        text.append_line(self.line.as_slice())
+    }
+
+    /// Appends the remarks behind it.
+    pub fn append_remarks(&self, text: &mut Text) -> Result<(), AllocError>
+        ensures { OnOk result (text.new ≡ text.old ++ remarks_text self.now) }
+    {
+        for line in self.behind.as_slice() {
+            text.append_line(line.as_slice())?;
+        }
+        Ok(())
+    }
+
+    /// Appends the line, and the remarks behind it.
+    pub fn append_text(&self, text: &mut Text) -> Result<(), AllocError>
+        ensures { OnOk result (text.new ≡ text.old ++ entry_text self.now) }
+    {
+        self.append_line_text(text)?;
+        self.append_remarks(text)
     }
 
     /// One more answer, where remarks may stand in the script or not.
@@ -118,15 +137,17 @@ impl Entry {
     ) -> Result<(), AllocError>
         ensures { OnOk result (self.new ≡ with_answer remarks self.old answer.now) }
     {
-        self.script.append(answer_mark(remarks))?;
+        if remarks {
+            self.behind.push(alloc, b"#")?;
+        }
         self.answers.push(alloc, answer)
     }
 
     /// A remark behind the line.
-    pub fn add_remark(&mut self, text: &[u8]) -> Result<(), AllocError>
+    pub fn add_remark(&mut self, alloc: Global, text: &[u8]) -> Result<(), AllocError>
         ensures { OnOk result (self.new ≡ with_remark self.old text.now) }
     {
-        self.script.append_line(text)
+        self.behind.push(alloc, text)
     }
 }
 

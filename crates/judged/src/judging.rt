@@ -1,16 +1,20 @@
 //! The answers of a transcript, judged one after the other.
 
 ghost use Rattle.std.specs.Prelude.{◌≡◌, ◌++◌, ◌∷◌, IfOk, OnOk};
-ghost use Rattle.judged.specs.Answers.{reasons_behind};
-ghost use Rattle.judged.specs.Judgements.{are_same, freedom_of, behind_commas, joined_answer, answer_behind_words, wrong_text, other_at, verdict_beside, entry_verdict, rulings_of};
+ghost use Rattle.tool.specs.Outcomes.{run_outcome_of};
+ghost use Rattle.judged.specs.Judgements.{are_same, freedom_of, behind_commas, joined_answer, answer_behind_words, wrong_text, verdict_beside, answers_verdict, can_change, own_reasons, entry_verdict, rulings_of};
+ghost use Rattle.judged.specs.Transcripts.{script_of};
 
-use crate::answers::{reasons_behind, said_behind, wanted_of};
-use crate::blanks::{append_other_line, append_other_text, first_answer};
+use crate::answers::{behind, is_receiving, reasons_told, wanted_of};
+use crate::bench::{Bench, Printed};
+use crate::blanks::{append_other_text, first_answer};
 use crate::entry::Entry;
 use crate::freedom::{Freedom, Freedoms};
 use crate::ruling::{Ruling, Rulings, Verdict};
 use crate::text::Text;
 use basics::Bytes;
+use runs::explored::Lines;
+use script_lines::Words;
 use std::alloc::{AllocError, Global};
 use tool::{Options, RunError};
 
@@ -106,75 +110,84 @@ fn wrong_text(
     Ok(text.into_bytes())
 }
 
-/// What the model says first to a line where every write before wrote another byte.
-fn other_at(
-    alloc: Global,
-    options: &Options,
-    other: &[u8],
-    entry: &Entry,
-) -> Result<Bytes, RunError>
-    ensures { IfOk result (λ line. line ≡ other_at options.now other.now entry.now) }
-{
-    let mut whole = Text::new(alloc);
-    whole.append(other)?;
-    append_other_line(&mut whole, entry.line.as_slice())?;
-    whole.append(b"\r\n")?;
-    let said = said_behind(alloc, options, other, whole.as_slice())?;
-    let line = Vec::from_slice(alloc, first_answer(said.as_slice()))?;
-    Ok(Bytes::from_vec(line))
-}
-
 /// How answers stand to what must be said, from which they differ.
 fn verdict_beside(
     alloc: Global,
-    options: &Options,
-    entry: &Entry,
     freedom: Option<Freedom>,
+    heard: &[Bytes],
     wanted: &[Bytes],
-    before: &[u8],
-    whole: &[u8],
-) -> Result<Verdict, RunError>
-    ensures { IfOk result (λ verdict. verdict ≡ verdict_beside freedom entry.now.answers wanted.now
-        (reasons_behind options.now before.now whole.now)) }
+    reasons: &[u8],
+) -> Result<Verdict, AllocError>
+    ensures { IfOk result (λ verdict. verdict
+        ≡ verdict_beside freedom heard.now wanted.now reasons.now) }
 {
     match freedom {
         Some(freedom) => Ok(Verdict::Allowed(freedom)),
         None => {
-            let reasons = reasons_behind(alloc, options, before, whole)?;
-            let heard = entry.answers.as_slice();
-            let text = wrong_text(alloc, heard, wanted, reasons.as_slice())?;
+            let text = wrong_text(alloc, heard, wanted, reasons)?;
             Ok(Verdict::Wrong(text))
         }
     }
 }
 
-/// How the answers to a line stand to what must be said.
-fn verdict_on(
+/// How answers stand to what must be said.
+fn answers_verdict(
     alloc: Global,
-    options: &Options,
     freedoms: &Freedoms,
-    entry: &Entry,
-    before: &[u8],
+    asked: &[u8],
+    heard: &[Bytes],
+    wanted: &[Bytes],
     other: &[u8],
-) -> Result<Verdict, RunError>
-    ensures { IfOk result (λ verdict. verdict
-        ≡ entry_verdict options.now freedoms.now before.now other.now entry.now) }
+    reasons: &[u8],
+) -> Result<Verdict, AllocError>
+    ensures { IfOk result (λ verdict. verdict ≡ answers_verdict freedoms.now asked.now heard.now
+        wanted.now other.now reasons.now) }
 {
-    let line = entry.line.as_slice();
-    let mut whole = Text::new(alloc);
-    whole.append(before)?;
-    whole.append_line(line)?;
-    let whole = whole.as_slice();
-    let said = said_behind(alloc, options, before, whole)?;
-    let heard = entry.answers.as_slice();
-    let wanted = wanted_of(alloc, heard, said.as_slice())?;
-    let wanted = wanted.as_slice();
     if are_same(heard, wanted) {
         return Ok(Verdict::Agrees);
     }
-    let other = other_at(alloc, options, other, entry)?;
-    let freedom = freedom_of(freedoms, line, heard, wanted, other.as_slice());
-    verdict_beside(alloc, options, entry, freedom, wanted, before, whole)
+    let freedom = freedom_of(freedoms, asked, heard, wanted, other);
+    verdict_beside(alloc, freedom, heard, wanted, reasons)
+}
+
+/// Whether a wrong answer to a line may come of a drive that is now in another state than the model.
+fn can_change(line: &[u8]) -> bool
+    ensures { result ≡ can_change line.now }
+{
+    let verb = Words::new(line).next_word();
+    !(verb == b"dread".as_slice()
+        || verb == b"identify".as_slice()
+        || verb == b"range".as_slice()
+        || verb == b"port".as_slice()
+        || verb == b"expect".as_slice())
+}
+
+/// How the answers to a line stand to what the model prints.
+fn entry_verdict(
+    alloc: Global,
+    freedoms: &Freedoms,
+    asked: &[u8],
+    entry: &Entry,
+    printed: &Printed,
+) -> Result<Verdict, AllocError>
+    ensures { IfOk result (λ verdict. verdict
+        ≡ entry_verdict freedoms.now asked.now entry.now printed.now) }
+{
+    let line = entry.line.as_slice();
+    let heard = entry.answers.as_slice();
+    let said = Lines::of_script(alloc, printed.said.as_slice())?;
+    let wanted = wanted_of(alloc, heard, said.as_slice())?;
+    let other = Lines::of_script(alloc, printed.other.as_slice())?;
+    let other = first_answer(other.as_slice());
+    let reasons = reasons_told(line, own_reasons(printed), asked);
+    answers_verdict(alloc, freedoms, line, heard, wanted.as_slice(), other, reasons)
+}
+
+/// The reasons of what a line prints.
+fn own_reasons(printed: &Printed) -> &[u8]
+    ensures { result.now ≡ own_reasons printed.now }
+{
+    behind(printed.explained.as_slice(), printed.said.as_slice().len())
 }
 
 /// How far a transcript is judged.
@@ -184,12 +197,14 @@ pub struct Judging {
     pub script: Text,
     /// The same, with another byte in each line that writes one.
     pub other: Text,
+    /// The reasons of the last line that does not receive.
+    pub asked: Text,
     pub rulings: Rulings,
 }
 
 impl Judging {
     ghost use Rattle.std.specs.Prelude.{◌≡◌, ◌++◌, ◌∷◌, [], OnOk};
-    ghost use Rattle.judged.specs.Judgements.{nothing_judged, ruling_at, with_entry};
+    ghost use Rattle.judged.specs.Judgements.{nothing_judged, rulings_at, asked_behind, entry_added};
 
     /// Nothing is judged.
     fn new(alloc: Global) -> Judging
@@ -198,64 +213,92 @@ impl Judging {
         Judging {
             script: Text::new(alloc),
             other: Text::new(alloc),
+            asked: Text::new(alloc),
             rulings: Rulings::new(alloc),
         }
     }
 
-    /// Judges the answers to a line, which has some.
+    /// Judges the answers to a line, where it has some.
     fn judge(
         &mut self,
         alloc: Global,
-        options: &Options,
         freedoms: &Freedoms,
         entry: &Entry,
-    ) -> Result<(), RunError>
+        printed: &Printed,
+    ) -> Result<(), AllocError>
         ensures script { self.new.script ≡ self.old.script }
         ensures other { self.new.other ≡ self.old.other }
+        ensures asked { self.new.asked ≡ self.old.asked }
         ensures rulings { OnOk result (self.new.rulings ≡ self.old.rulings
-            ++ ruling_at options.now freedoms.now self.old.script self.old.other entry.now ∷ []) }
+            ++ rulings_at freedoms.now self.old.asked entry.now printed.now) }
     {
-        let before = self.script.as_slice();
-        let other = self.other.as_slice();
-        let verdict = verdict_on(alloc, options, freedoms, entry, before, other)?;
+        if entry.answers.len() == 0 {
+            return Ok(());
+        }
+        let asked = self.asked.as_slice();
+        let verdict = entry_verdict(alloc, freedoms, asked, entry, printed)?;
         self.rulings.push(Ruling {
             number: entry.number,
+            changes: can_change(entry.line.as_slice()),
             verdict,
-        })?;
-        Ok(())
+        })
     }
 
-    /// Judges the answers to one line more.
+    /// Keeps the reasons of a line that does not receive.
+    fn keep_reasons(
+        &mut self,
+        alloc: Global,
+        entry: &Entry,
+        printed: &Printed,
+    ) -> Result<(), AllocError>
+        ensures script { self.new.script ≡ self.old.script }
+        ensures other { self.new.other ≡ self.old.other }
+        ensures rulings { self.new.rulings ≡ self.old.rulings }
+        ensures asked { OnOk result (self.new.asked
+            ≡ asked_behind self.old.asked entry.now printed.now) }
+    {
+        if is_receiving(entry.line.as_slice()) {
+            return Ok(());
+        }
+        self.asked = Text::new(alloc);
+        self.asked.append(own_reasons(printed))
+    }
+
+    /// Judges the answers to one line more, for which the model prints this.
     fn add(
         &mut self,
         alloc: Global,
-        options: &Options,
         freedoms: &Freedoms,
         entry: &Entry,
-    ) -> Result<(), RunError>
-        ensures { OnOk result (self.new ≡ with_entry options.now freedoms.now self.old entry.now) }
+        printed: &Printed,
+    ) -> Result<(), AllocError>
+        ensures { OnOk result (self.new
+            ≡ entry_added freedoms.now self.old entry.now printed.now) }
     {
-        if entry.answers.len() != 0 {
-            self.judge(alloc, options, freedoms, entry)?;
-        }
-        self.script.append(entry.script.as_slice())?;
-        append_other_text(&mut self.other, entry)?;
-        Ok(())
+        self.judge(alloc, freedoms, entry, printed)?;
+        self.keep_reasons(alloc, entry, printed)?;
+        entry.append_text(&mut self.script)?;
+        append_other_text(&mut self.other, entry)
     }
 }
 
-/// How the answers of a transcript stand to the model's.
-pub(crate) fn rulings_of(
+/// How the answers of a transcript stand to the model's, and the status of its script.
+pub(crate) fn judge_all(
     alloc: Global,
     options: &Options,
     freedoms: &Freedoms,
     entries: &[Entry],
-) -> Result<Rulings, RunError>
-    ensures { IfOk result (λ rulings. rulings ≡ rulings_of options.now freedoms.now entries.now) }
+) -> Result<(Rulings, u8), RunError>
+    ensures rulings { IfOk result (λ judged. judged.0
+        ≡ rulings_of options.now freedoms.now entries.now) }
+    ensures status { IfOk result (λ judged. judged.1
+        ≡ (run_outcome_of options.now (script_of entries.now)).status) }
 {
+    let mut bench = Bench::new(alloc);
     let mut judging = Judging::new(alloc);
     for entry in entries {
-        judging.add(alloc, options, freedoms, entry)?;
+        let printed = bench.print(alloc, options, entry)?;
+        judging.add(alloc, freedoms, entry, &printed)?;
     }
-    Ok(judging.rulings)
+    Ok((judging.rulings, bench.status()))
 }

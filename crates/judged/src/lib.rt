@@ -3,6 +3,7 @@
 #![tactic(auto)]
 
 mod answers;
+mod bench;
 mod blanks;
 mod entry;
 mod freedom;

@@ -1,10 +1,9 @@
 //! Transcripts as they are read.
 
 ghost use Rattle.std.specs.Prelude.{◌≡◌, IfOk};
-ghost use Rattle.judged.specs.Transcripts.{holds_remarks, entries_of, script_of};
+ghost use Rattle.judged.specs.Transcripts.{holds_remarks, entries_of};
 
 use crate::entry::{Entries, Entry, answer_told, is_answer_line};
-use crate::text::Text;
 use basics::Bytes;
 use std::alloc::{AllocError, Global};
 use std::mem;
@@ -67,7 +66,7 @@ impl Reading {
             return self.current.add_answer(alloc, remarks, answer_told(text));
         }
         if is_skipped(remarks, text) {
-            return self.current.add_remark(text);
+            return self.current.add_remark(alloc, text);
         }
         self.begin(alloc, number, text)
     }
@@ -102,15 +101,4 @@ pub(crate) fn entries_of(alloc: Global, lines: &[Bytes]) -> Result<Entries, Allo
         reading.add(alloc, remarks, place as u64 + 1, line.as_slice())?;
     }
     reading.into_entries()
-}
-
-/// The script of a transcript.
-pub(crate) fn script_of(alloc: Global, entries: &[Entry]) -> Result<Text, AllocError>
-    ensures { IfOk result (λ script. script ≡ script_of entries.now) }
-{
-    let mut script = Text::new(alloc);
-    for entry in entries {
-        script.append(entry.script.as_slice())?;
-    }
-    Ok(script)
 }

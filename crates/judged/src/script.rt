@@ -3,17 +3,17 @@
 ghost use Rattle.std.specs.Prelude.{◌≡◌, ◌≤◌, IfOk};
 ghost use Rattle.std.specs.Io.KnownBytes.{Appends};
 ghost use Rattle.tool.specs.Outcomes.{Yields};
-ghost use Rattle.judged.specs.Transcripts.{script_of};
-ghost use Rattle.judged.specs.Judgements.{rulings_told, judged_entries, judgement_of_entries, JudgesTranscript};
+ghost use Rattle.judged.specs.Judgements.{rulings_told, judgement_of_entries, JudgesTranscript};
 
 use crate::entry::Entry;
 use crate::freedom::Freedoms;
-use crate::judging::rulings_of;
-use crate::reading::{entries_of, script_of};
+use crate::judging::judge_all;
+use crate::reading::entries_of;
 use crate::ruling::Ruling;
 use crate::telling::{faults_in, rulings_text};
 use crate::text::Text;
 use runs::explored::{Lines, whole_text};
+use runs::recorded::SteppedRun;
 use std::alloc::Global;
 use std::io;
 use std::io::{Read, Write};
@@ -48,6 +48,26 @@ fn tell_line<E: Write>(
     writeln!(faults).map_err(|_| RunError::Write)
 }
 
+/// The text of a script through the line that ends it before its end, and the number of that line in the transcript.
+fn script_to_end(
+    alloc: Global,
+    options: &Options,
+    entries: &[Entry],
+) -> Result<(Text, u64), RunError> {
+    let mut run = SteppedRun::new(alloc, false);
+    let mut script = Text::new(alloc);
+    for entry in entries {
+        let mut text = Text::new(alloc);
+        entry.append_text(&mut text)?;
+        script.append(text.as_slice())?;
+        run.go_on(options, text.as_slice())?;
+        if run.status() != 0 {
+            return Ok((script, entry.number));
+        }
+    }
+    Ok((script, 0))
+}
+
 /// Tells at which line the script of a transcript ends before its end, and why.
 fn tell_end<E: Write>(
     alloc: Global,
@@ -55,17 +75,11 @@ fn tell_end<E: Write>(
     entries: &[Entry],
     faults: &mut E,
 ) -> Result<(), RunError> {
-    let mut script = Text::new(alloc);
-    for entry in entries {
-        script.append(entry.script.as_slice())?;
-        let mut told = Vec::new(alloc);
-        let text = script.as_slice();
-        let status = run_script_with_faults(alloc, text, &mut io::sink(), &mut told, options)?;
-        if status != 0 {
-            return tell_line(alloc, entry.number, &told, faults);
-        }
-    }
-    Ok(())
+    let (script, number) = script_to_end(alloc, options, entries)?;
+    let mut told = Vec::new(alloc);
+    let text = script.as_slice();
+    run_script_with_faults(alloc, text, &mut io::sink(), &mut told, options)?;
+    tell_line(alloc, number, &told, faults)
 }
 
 /// Writes what is told of answers, and gives the status: 1 where one is wrong.
@@ -87,22 +101,6 @@ fn tell_rulings<W: Write>(
     Ok(1)
 }
 
-/// Judges the answers of a transcript whose script runs to its end.
-fn judge_entries<W: Write>(
-    alloc: Global,
-    entries: &[Entry],
-    output: &mut W,
-    options: &Options,
-    terms: &Terms,
-) -> Result<u8, RunError>
-    ensures most { IfOk result (λ status. status ≤ 2) }
-    ensures told { IfOk result (λ status. Yields (judged_entries options.now terms.now entries.now)
-        status (W.contents output.old) (W.contents output.new)) }
-{
-    let rulings = rulings_of(alloc, options, &terms.freedoms, entries)?;
-    tell_rulings(alloc, terms.quiet, rulings.as_slice(), output)
-}
-
 /// Judges a transcript by its lines.
 fn judge_script<W: Write, E: Write>(
     alloc: Global,
@@ -116,14 +114,12 @@ fn judge_script<W: Write, E: Write>(
     ensures told { IfOk result (λ status. Yields (judgement_of_entries options.now terms.now
         entries.now) status (W.contents output.old) (W.contents output.new)) }
 {
-    let script = script_of(alloc, entries)?;
-    let text = script.as_slice();
-    let status = run_script_with_faults(alloc, text, &mut io::sink(), &mut io::sink(), options)?;
+    let (rulings, status) = judge_all(alloc, options, &terms.freedoms, entries)?;
     if status != 0 {
         tell_end(alloc, options, entries, faults)?;
         return Ok(2);
     }
-    judge_entries(alloc, entries, output, options, terms)
+    tell_rulings(alloc, terms.quiet, rulings.as_slice(), output)
 }
 
 /// Reads a transcript, a script in which lines `= ANSWER` stand behind a line and say what another drive answered to it, and

@@ -2,7 +2,7 @@
 
 ghost use Rattle.std.specs.Prelude.{◌≡◌, ◌++◌, IfOk, OnOk, codes, decimal};
 ghost use Rattle.std.specs.List.{flat_map};
-ghost use Rattle.judged.specs.Judgements.{verdict_text, ruling_text, how_many, is_agreement, is_allowance, is_wrong, count_between, summary_text, rulings_text};
+ghost use Rattle.judged.specs.Judgements.{verdict_text, first_cause, follow_text, ruling_text, how_many, is_agreement, is_allowance, is_wrong, count_between, summary_text, rulings_text};
 
 use crate::ruling::{Ruling, Verdict};
 use basics::append_decimal;
@@ -16,14 +16,47 @@ fn append_place(alloc: Global, text: &mut Vec<u8>, number: u64) -> Result<(), Al
     append_decimal(alloc, text, number)
 }
 
-/// Appends what is told of the answers to a line.
-fn append_ruling(
+/// The line of the first wrong answer from which others may follow.
+fn first_cause(rulings: &[Ruling]) -> Option<u64>
+    ensures { result ≡ first_cause rulings.now }
+{
+    for ruling in rulings {
+        if ruling.is_cause() {
+            return Some(ruling.number);
+        }
+    }
+    None
+}
+
+/// Appends from which line an answer may follow.
+fn append_follow(
+    alloc: Global,
+    text: &mut Vec<u8>,
+    cause: Option<u64>,
+    number: u64,
+) -> Result<(), AllocError>
+    ensures { OnOk result (text.new.items ≡ text.old.items ++ follow_text cause number) }
+{
+    let Some(cause) = cause else {
+        return Ok(());
+    };
+    if cause >= number {
+        return Ok(());
+    }
+    text.extend_from_slice(b"may follow from line ")?;
+    append_decimal(alloc, text, cause)?;
+    text.extend_from_slice(b"\n")
+}
+
+/// Appends how the answers to a line were judged.
+fn append_verdict(
     alloc: Global,
     text: &mut Vec<u8>,
     quiet: bool,
     ruling: &Ruling,
 ) -> Result<(), AllocError>
-    ensures { OnOk result (text.new.items ≡ text.old.items ++ ruling_text quiet ruling.now) }
+    ensures { OnOk result (text.new.items ≡ text.old.items
+        ++ verdict_text quiet ruling.now.number ruling.now.verdict) }
 {
     match &ruling.verdict {
         Verdict::Agrees => Ok(()),
@@ -44,18 +77,36 @@ fn append_ruling(
     }
 }
 
-/// Appends what is told of each.
+/// Appends what is told of the answers to a line, where this is the first cause.
+fn append_ruling(
+    alloc: Global,
+    text: &mut Vec<u8>,
+    quiet: bool,
+    cause: Option<u64>,
+    ruling: &Ruling,
+) -> Result<(), AllocError>
+    ensures { OnOk result (text.new.items ≡ text.old.items ++ ruling_text quiet cause ruling.now) }
+{
+    append_verdict(alloc, text, quiet, ruling)?;
+    if !ruling.verdict.is_wrong() {
+        return Ok(());
+    }
+    append_follow(alloc, text, cause, ruling.number)
+}
+
+/// Appends what is told of each, where this is the first cause.
 fn append_rulings(
     alloc: Global,
     text: &mut Vec<u8>,
     quiet: bool,
+    cause: Option<u64>,
     rulings: &[Ruling],
 ) -> Result<(), AllocError>
     ensures { OnOk result (text.new.items ≡ text.old.items
-        ++ flat_map (ruling_text quiet) rulings.now) }
+        ++ flat_map (ruling_text quiet cause) rulings.now) }
 {
     for ruling in rulings {
-        append_ruling(alloc, text, quiet, ruling)?;
+        append_ruling(alloc, text, quiet, cause, ruling)?;
     }
     Ok(())
 }
@@ -125,7 +176,7 @@ pub(crate) fn rulings_text(
     ensures { IfOk result (λ text. text.items ≡ rulings_text quiet rulings.now) }
 {
     let mut text = Vec::new(alloc);
-    append_rulings(alloc, &mut text, quiet, rulings)?;
+    append_rulings(alloc, &mut text, quiet, first_cause(rulings), rulings)?;
     append_summary(alloc, &mut text, rulings)?;
     Ok(text)
 }

@@ -6,3 +6,4 @@ mod Dumping
 mod Outcomes
 mod Drawing
 mod Shows
+mod LineByLine

@@ -9,3 +9,4 @@ pub mod Recordings
 pub mod Dumped
 pub mod Progress
 pub mod Pictures
+pub mod Stepped

@@ -8,6 +8,7 @@ mod front;
 mod look;
 mod recorder;
 mod script;
+mod stepped;
 
 pub use draw::draw_script;
 pub use dump::{Dump, run_script_with_dump};
@@ -15,3 +16,4 @@ pub use error::RecordError;
 pub use frames::Frames;
 pub use recorder::Recorder;
 pub use script::record_script;
+pub use stepped::SteppedRun;

@@ -33,7 +33,7 @@ step-so o last line (Ok made) runs records same =
     ap (λ (r : RunOutcome). onward (λ _. r) (Ok made)) (same made)
 step-so o last line (Err status) runs records same = refl
 
-on-so : (o : Origin) (course : Course) (last : List ℕ) (lines : List ScriptLine)
+pub on-so : (o : Origin) (course : Course) (last : List ℕ) (lines : List ScriptLine)
     → outcome_on o course last lines ≡ outcome_in (recording_on o course last lines)
 unfolding outcome_on recording_on
 on-so o course last [] = refl
@@ -89,7 +89,7 @@ either-so : (on_port explains : Bool) (kind : ScriptKind) (phase : OpeningPhase)
 either-so true explains kind phase first lines = from-so explains kinds.Port phase lines
 either-so false explains kind phase first lines = from-so explains kind phase (first ∷ lines)
 
-lines-so : (explains : Bool) (kind : ScriptKind) (config : Config) (lines : List ScriptLine)
+pub lines-so : (explains : Bool) (kind : ScriptKind) (config : Config) (lines : List ScriptLine)
     → outcome_of_lines explains kind config lines
     ≡ outcome_in (recording_of_lines explains kind (Factory config) lines)
 lines-so explains kind config [] = refl

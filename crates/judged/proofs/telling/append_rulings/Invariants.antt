@@ -5,4 +5,4 @@ use Rattle.judged.proofs.telling.append_rulings.Given as goal
 
 abbrev pub invariant-loop-ruling : goal.invariant-loop-ruling
 invariant-loop-ruling l =
-    l.text.items ++ flat_map (ruling_text l.quiet) (drop l.ruling-index l.rulings) ≡ l.fn.text.items ++ flat_map (ruling_text l.quiet) l.rulings
+    l.text.items ++ flat_map (ruling_text l.quiet l.cause) (drop l.ruling-index l.rulings) ≡ l.fn.text.items ++ flat_map (ruling_text l.quiet l.cause) l.rulings

@@ -1,8 +1,0 @@
-use Rattle.std.proofs.Common.{◌≡◌, drop}
-use Rattle.std.specs.List.{fold}
-use Rattle.judged.specs.Judgements.{with_entry, nothing_judged}
-use Rattle.judged.proofs.judging.rulings_of.Given as goal
-
-abbrev pub invariant-loop-entry : goal.invariant-loop-entry
-invariant-loop-entry l =
-    fold (with_entry l.options l.freedoms) l.judging (drop l.entry-index l.entries) ≡ fold (with_entry l.options l.freedoms) nothing_judged l.entries

@@ -1,0 +1,216 @@
+//! A run of a script whose lines come piece by piece: what was printed can be seen behind each.
+
+ghost use Rattle.std.specs.Prelude.{◌≡◌, ◌+◌, Bool, IfOk};
+ghost use Rattle.sp_cells.specs.Config.{Config};
+ghost use Rattle.tool.specs.Courses.{PhaseStands};
+ghost use Rattle.runs.specs.Stepped.{stage_behind, FrontMakes, LineMakes, RunMakes, StageStands};
+ghost use Rattle.runs.specs.declared.recorded.stepped.Stage.TheVariants as stages;
+
+use crate::explored::Lines;
+use crate::recorded::front::{Front, FrontTurn};
+use script_lines::Report;
+use std::alloc::Global;
+use std::mem;
+use tool::{Options, Phase, RunError, Turn, may_hold_remarks};
+
+/// The most lines that come.
+const LINE_LIMIT: u64 = 4_294_967_296;
+
+/// What the lines that came made.
+#[derive(Drop)]
+pub(crate) enum Stage {
+    /// None came.
+    Untold,
+    /// Lines in front alone came, in a script in which remarks may stand or not.
+    InFront { remarks: bool, front: Front },
+    /// Lines run.
+    Runs { remarks: bool, run: Phase },
+    /// A line ended the script, with this status.
+    Ended { status: u8 },
+}
+
+/// Lets go what ran.
+fn ended(run: Phase, status: u8) -> Stage
+    ensures { result ≡ stages.Ended status }
+{
+    drop(run);
+    Stage::Ended { status }
+}
+
+/// What a turn makes of what ran.
+fn stage_behind(turn: Turn, remarks: bool, run: Phase) -> Stage
+    ensures { result ≡ stage_behind turn remarks run }
+{
+    match turn {
+        Turn::Goes { .. } => Stage::Runs { remarks, run },
+        Turn::ExpectationFailed => ended(run, 1),
+        Turn::Bad(_) => ended(run, 2),
+    }
+}
+
+/// Does a line of this number on what runs.
+fn run_line(
+    remarks: bool,
+    mut run: Phase,
+    number: u64,
+    text: &[u8],
+    report: &mut Report,
+) -> Result<Stage, RunError>
+    requires { PhaseStands run }
+    ensures stands { IfOk result StageStands }
+    ensures makes { IfOk result (λ stage.
+        RunMakes remarks run number text.now report.old stage report.new) }
+{
+    match run.turn_or_skip(remarks, number, text, report) {
+        Ok(turn) => Ok(stage_behind(turn, remarks, run)),
+        Err(error) => {
+            drop(run);
+            Err(RunError::from(error))
+        }
+    }
+}
+
+/// Does a line of this number behind lines in front.
+fn front_line(
+    alloc: Global,
+    explains: bool,
+    remarks: bool,
+    front: Front,
+    number: u64,
+    text: &[u8],
+    report: &mut Report,
+) -> Result<Stage, RunError>
+    ensures stands { IfOk result StageStands }
+    ensures makes { IfOk result (λ stage. (config : Config)
+        → FrontMakes explains config remarks front number text.now report.old stage report.new) }
+{
+    match front.turn(alloc, explains, remarks, text)? {
+        FrontTurn::Goes(front) => Ok(Stage::InFront { remarks, front }),
+        FrontTurn::Runs(run) => run_line(remarks, run, number, text, report),
+        FrontTurn::Bad(_) => Ok(Stage::Ended { status: 2 }),
+    }
+}
+
+/// Does a line of this number, at any stage.
+fn stage_line(
+    alloc: Global,
+    options: &Options,
+    explains: bool,
+    stage: Stage,
+    number: u64,
+    text: &[u8],
+    report: &mut Report,
+) -> Result<Stage, RunError>
+    requires { StageStands stage }
+    ensures stands { IfOk result StageStands }
+    ensures makes { IfOk result (λ next.
+        LineMakes explains options.now stage number text.now report.old next report.new) }
+{
+    match stage {
+        Stage::Untold => {
+            let remarks = may_hold_remarks(text);
+            let front = Front::new(options, remarks);
+            front_line(alloc, explains, remarks, front, number, text, report)
+        }
+        Stage::InFront { remarks, front } => {
+            front_line(alloc, explains, remarks, front, number, text, report)
+        }
+        Stage::Runs { remarks, run } => run_line(remarks, run, number, text, report),
+        Stage::Ended { status } => Ok(Stage::Ended { status }),
+    }
+}
+
+/// A run of a script whose lines come piece by piece.
+#[derive(Drop)]
+pub struct SteppedRun {
+    alloc: Global,
+    /// Whether each refusal is told with its reason.
+    explains: bool,
+    /// How many lines came.
+    lines: u64,
+    report: Report,
+    stage: Stage,
+}
+
+impl SteppedRun {
+    ghost use Rattle.std.specs.Prelude.{◌≡◌, ◌++◌, ◌∷◌, [], ℕ, Bool, List, OnOk};
+    ghost use Rattle.sp_cells.specs.Config.{Config};
+    ghost use Rattle.tool.specs.Outcomes.{outcome_by};
+    ghost use Rattle.runs.specs.Stepped.{LinesCame, RanTo, RunStands, WholeLines};
+
+    /// A run of a script of which no line came, with reasons or without.
+    pub fn new(alloc: Global, explains: bool) -> SteppedRun
+        ensures stands { RunStands result }
+        ensures ran { (config : Config) → RanTo result explains config [] }
+    {
+        SteppedRun {
+            alloc,
+            explains,
+            lines: 0,
+            report: Report::new(alloc),
+            stage: Stage::Untold,
+        }
+    }
+
+    /// Does one line more.
+    fn add_line(&mut self, options: &Options, text: &[u8]) -> Result<(), RunError>
+        requires { RunStands self.old }
+        ensures explains { self.new.explains ≡ self.old.explains }
+        ensures stands { OnOk result (RunStands self.new) }
+        ensures came { OnOk result ((came : List (List ℕ)) → LinesCame self.old options.now came
+            → LinesCame self.new options.now (came ++ text.now ∷ [])) }
+    {
+        if self.lines >= LINE_LIMIT {
+            return Err(RunError::ReadLimit);
+        }
+        let stage = mem::replace(&mut self.stage, Stage::Untold);
+        let number = self.lines + 1;
+        let report = &mut self.report;
+        let explains = self.explains;
+        let next = stage_line(self.alloc, options, explains, stage, number, text, report)?;
+        drop(mem::replace(&mut self.stage, next));
+        self.lines = number;
+        Ok(())
+    }
+
+    /// Does the lines of a text, behind those that came.
+    ///
+    /// # Errors
+    ///
+    /// Want of memory, and `ReadLimit`. Then what was printed is not known.
+    pub fn go_on(&mut self, options: &Options, text: &[u8]) -> Result<(), RunError>
+        requires stands { RunStands self.old }
+        requires whole { WholeLines text.now }
+        ensures stands { OnOk result (RunStands self.new) }
+        ensures ran { OnOk result ((explains : Bool) (before : List ℕ)
+            → RanTo self.old explains options.now before
+            → RanTo self.new explains options.now (before ++ text.now)) }
+    {
+        let lines = Lines::of_script(self.alloc, text)?;
+        for line in lines.as_slice() {
+            self.add_line(options, line.as_slice())?;
+        }
+        Ok(())
+    }
+
+    /// What was printed.
+    pub fn printed(&self) -> &[u8]
+        ensures { (explains : Bool) (config : Config) (text : List ℕ)
+            → RanTo self.now explains config text
+            → result.now ≡ (outcome_by explains config text).text }
+    {
+        &self.report.pending
+    }
+
+    /// The status that the script has if no line comes.
+    pub fn status(&self) -> u8
+        ensures { (explains : Bool) (config : Config) (text : List ℕ)
+            → RanTo self.now explains config text
+            → result ≡ (outcome_by explains config text).status }
+    {
+        match &self.stage {
+            Stage::Ended { status } => *status,
+            _ => 0,
+        }
+    }
+}
