@@ -9,7 +9,7 @@ use crate::answers::{behind, is_receiving, reasons_told, wanted_of};
 use crate::bench::{Bench, Printed};
 use crate::blanks::{append_other_text, first_answer};
 use crate::entry::Entry;
-use crate::freedom::{Freedom, Freedoms};
+use crate::freedom::{Freedom, Freedoms, asks_level0};
 use crate::ruling::{Ruling, Rulings, Verdict};
 use crate::text::Text;
 use basics::Bytes;
@@ -157,9 +157,11 @@ fn can_change(line: &[u8]) -> bool
     let verb = Words::new(line).next_word();
     !(verb == b"dread".as_slice()
         || verb == b"identify".as_slice()
+        || verb == b"take".as_slice()
         || verb == b"range".as_slice()
         || verb == b"port".as_slice()
         || verb == b"expect".as_slice())
+        && !asks_level0(line)
 }
 
 /// How the answers to a line stand to what the model prints.
@@ -180,7 +182,15 @@ fn entry_verdict(
     let other = Lines::of_script(alloc, printed.other.as_slice())?;
     let other = first_answer(other.as_slice());
     let reasons = reasons_told(line, own_reasons(printed), asked);
-    answers_verdict(alloc, freedoms, line, heard, wanted.as_slice(), other, reasons)
+    answers_verdict(
+        alloc,
+        freedoms,
+        line,
+        heard,
+        wanted.as_slice(),
+        other,
+        reasons,
+    )
 }
 
 /// The reasons of what a line prints.

@@ -40,8 +40,8 @@ outcome_of_texts explains config texts =
     outcome_of_lines explains (kind_of_script texts) config (effective_lines texts)
 
 -- what a recording prints, and its status
-abbrev pub outcome_in : Recording → RunOutcome
-outcome_in recording = record { text = recording.text; status = recording.status }
+abbrev pub outcome_recorded : Recording → RunOutcome
+outcome_recorded recording = record { text = recording.text; status = recording.status }
 
 -- lines behind so many others, without the remarks
 abbrev pub lines_behind : Bool → ℕ → List (List ℕ) → List ScriptLine
@@ -50,7 +50,7 @@ lines_behind remarks lines texts = without_remarks remarks (with_numbers lines t
 -- what lines come to behind those in front
 abbrev pub front_comes : Bool → Bool → Front → ℕ → List (List ℕ) → RunOutcome
 front_comes explains remarks front lines texts =
-    outcome_in (front_recording explains front (lines_behind remarks lines texts))
+    outcome_recorded (front_recording explains front (lines_behind remarks lines texts))
 
 -- what lines come to on what runs, behind what was printed
 abbrev pub run_comes : Bool → Origin → Course → Report → ℕ → List (List ℕ) → RunOutcome

@@ -15,7 +15,7 @@ use Rattle.tool.specs.declared.opening.OpeningPhase.TheVariants.{Factory}
 use Rattle.tool.specs.declared.phase.Phase.{Phase}
 use Rattle.runs.specs.Recordings.{recording_opened, recording_from, recording_of_lines, stops}
 use Rattle.runs.specs.Progress.{TurnsSo, front_recording, line_at}
-use Rattle.runs.specs.Stepped.{WholeLines, stage_behind, StageStands, outcome_of_texts, outcome_in, lines_behind, front_comes, run_comes, IsSilent, StageLeads, RunMakes, FrontMakes, LineMakes, LinesCame, RanTo, RunStands}
+use Rattle.runs.specs.Stepped.{WholeLines, stage_behind, StageStands, outcome_of_texts, outcome_recorded, lines_behind, front_comes, run_comes, IsSilent, StageLeads, RunMakes, FrontMakes, LineMakes, LinesCame, RanTo, RunStands}
 use Rattle.runs.specs.declared.recorded.front.Front.{Front}
 use Rattle.runs.specs.declared.recorded.front.Front.TheVariants as fronts
 use Rattle.runs.specs.declared.recorded.front.FrontTurn.{FrontTurn}
@@ -123,8 +123,8 @@ unfolding with_numbers
 goes-makes explains config remarks front next number text report so = λ lines comes is silent leads. (
   silent,
   λ texts. leads texts
-      ∙ ap (λ n. outcome_in (front_recording explains front (without_remarks remarks (line_at n text ∷ with_numbers n texts)))) (sym is)
-      ∙ ap outcome_in (so number (with_numbers number texts)),
+      ∙ ap (λ n. outcome_recorded (front_recording explains front (without_remarks remarks (line_at n text ∷ with_numbers n texts)))) (sym is)
+      ∙ ap outcome_recorded (so number (with_numbers number texts)),
 )
 
 pub bad-makes : (explains : Bool) (config : Config) (remarks : Bool) (front : Front) (number : ℕ) (text : List ℕ) (report : Report)
@@ -133,7 +133,7 @@ pub bad-makes : (explains : Bool) (config : Config) (remarks : Bool) (front : Fr
     → FrontMakes explains config remarks front number text report (Ended 2) report
 unfolding with_numbers
 bad-makes explains config remarks front number text report so = λ lines comes is silent leads. λ texts.
-    leads texts ∙ ap outcome_in (so (lines + 1) (with_numbers (lines + 1) texts))
+    leads texts ∙ ap outcome_recorded (so (lines + 1) (with_numbers (lines + 1) texts))
     ∙ ap (λ pending. printed_first pending (ends 2)) (sym silent.0)
 
 pub front-stands : (explains remarks : Bool) (front : Front) (text : List ℕ) (run : Phase)
@@ -150,7 +150,7 @@ runs-makes explains config remarks front run number text before after stage (o, 
     makes explains config o (start explains kind) lines comes is runs
     (λ texts.
     let these = without_remarks remarks (line_at (lines + 1) text ∷ with_numbers (lines + 1) texts) in
-    leads texts ∙ ap outcome_in (so (lines + 1) (with_numbers (lines + 1) texts))
+    leads texts ∙ ap outcome_recorded (so (lines + 1) (with_numbers (lines + 1) texts))
     ∙ sym (on-so o (start explains kind) [] these)
     ∙ ap (λ last. printed_first [] (outcome_on o (start explains kind) last these)) (sym silent.1)
     ∙ ap (λ pending. printed_first pending (outcome_on o (start explains kind) before.last.items these)) (sym silent.0))
@@ -161,8 +161,8 @@ first-so : (explains : Bool) (config : Config) (remarks : Bool) (front : Front) 
     → outcome_of_texts explains config (text ∷ texts) ≡ front_comes explains remarks front lines (text ∷ texts)
 first-so explains config remarks front lines text texts may bare none =
     lines-so explains (drive_kind (may_hold_remarks text)) config (without_remarks (may_hold_remarks text) (with_numbers 0 (text ∷ texts)))
-    ∙ ap (λ (r : Bool). outcome_in (recording_of_lines explains (drive_kind r) (Factory config) (without_remarks r (with_numbers 0 (text ∷ texts))))) (sym may)
-    ∙ ap (λ n. outcome_in (recording_of_lines explains (drive_kind remarks) (Factory config) (without_remarks remarks (with_numbers n (text ∷ texts))))) (sym none)
+    ∙ ap (λ (r : Bool). outcome_recorded (recording_of_lines explains (drive_kind r) (Factory config) (without_remarks r (with_numbers 0 (text ∷ texts))))) (sym may)
+    ∙ ap (λ n. outcome_recorded (recording_of_lines explains (drive_kind remarks) (Factory config) (without_remarks remarks (with_numbers n (text ∷ texts))))) (sym none)
     ∙ ap (λ front. front_comes explains remarks front lines (text ∷ texts)) (sym bare)
 
 pub untold-makes : (explains : Bool) (config : Config) (remarks : Bool) (front : Front) (number : ℕ) (text : List ℕ) (before after : Report) (stage : Stage)
@@ -280,7 +280,7 @@ unfolding outcome_on without_remarks with_numbers
 comes-to explains config lines report Untold comes leads =
     leads.2 [] ∙ ap (λ pending. printed_first pending (ends 0)) (sym leads.1.0)
 comes-to explains config lines report (InFront remarks front) comes leads =
-    leads.1 [] ∙ ap outcome_in (no-lines explains front) ∙ ap (λ pending. printed_first pending (ends 0)) (sym leads.0.0)
+    leads.1 [] ∙ ap outcome_recorded (no-lines explains front) ∙ ap (λ pending. printed_first pending (ends 0)) (sym leads.0.0)
 comes-to explains config lines report (Runs remarks run) comes leads = leads.3 []
 comes-to explains config lines report (Ended status) comes leads = leads []
 
