@@ -28,6 +28,9 @@ line-whole entry = at (entry.number == 0)
 pub remarks-whole : (entry : Entry) → WholeLines (remarks_text entry)
 remarks-whole entry = lines-whole entry.behind
 
+pub entry-whole : (entry : Entry) → WholeLines (entry_text entry)
+entry-whole entry = both-whole (own_line_text entry) (remarks_text entry) (line-whole entry) (remarks-whole entry)
+
 pub other-whole : (entry : Entry) → WholeLines (other_text entry)
 other-whole entry = at (entry.number == 0) (expects entry.line)
   where
