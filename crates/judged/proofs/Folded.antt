@@ -1,14 +1,11 @@
 -- The runs of a transcript's script, line by line.
-use Rattle.std.proofs.Common.{◌≡◌, ◌∙◌, ℕ, zero, suc, ◌+◌, ◌<◌, ◌≤◌, true, false, List, [], ◌∷◌, ◌++◌, length, drop, get_or, fold, refl, sym, ap, subst, append_assoc, append-nil, arith}
+use Rattle.std.proofs.Common.{◌≡◌, ◌∙◌, ℕ, zero, suc, ◌+◌, ◌<◌, ◌≤◌, true, false, List, [], ◌∷◌, ◌++◌, length, drop, get_or, fold, refl, sym, ap, append_assoc, append-nil, arith}
 use Rattle.sp_cells.specs.Config.{Config}
-use Rattle.runs.specs.Stepped.{RanTo}
-use Rattle.tool.specs.Outcomes.{run_outcome_of}
 use Rattle.judged.specs.Answers.{text_behind}
-use Rattle.judged.specs.Benches.{BenchFits, ScriptsGoOn}
+use Rattle.judged.specs.Benches.{ScriptsGoOn}
 use Rattle.judged.specs.Blanks.{other_text}
 use Rattle.judged.specs.Judgements.{through, printed_at, entry_added, with_entry, nothing_judged}
 use Rattle.judged.specs.Transcripts.{entry_text, script_of}
-use Rattle.judged.specs.declared.bench.Bench.{Bench}
 use Rattle.judged.specs.declared.bench.Printed.{Printed}
 use Rattle.judged.specs.declared.entry.Entry.{Entry}
 use Rattle.judged.specs.declared.freedom.Freedom.{Freedom}

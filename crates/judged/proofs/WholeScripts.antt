@@ -1,11 +1,10 @@
 -- The texts of entries are whole lines.
-use Rattle.std.proofs.Common.{◌≡◌, ℕ, ◌==◌, Bool, true, false, cond, List, [], ◌∷◌, ◌++◌, refl, sym, ap, ◌∙◌, subst, append_assoc}
+use Rattle.std.proofs.Common.{◌≡◌, ℕ, ◌==◌, Bool, true, false, cond, List, [], ◌∷◌, ◌++◌, ap, ◌∙◌, subst, append_assoc}
 use Rattle.std.specs.List.{flat_map}
 use Rattle.sp_cells.specs.Config.{Config}
 use Rattle.runs.specs.Stepped.{WholeLines, RanTo}
 use Rattle.runs.specs.declared.recorded.stepped.SteppedRun.{SteppedRun}
 use Rattle.runs.proofs.WholeTexts.{none-whole, both-whole, ended-whole}
-use Rattle.judged.specs.Benches.{BenchFits, ScriptsGoOn}
 use Rattle.judged.specs.Blanks.{expects, other_line, other_text}
 use Rattle.judged.specs.Transcripts.{with_line_end, own_line_text, remarks_text, entry_text}
 use Rattle.judged.specs.declared.entry.Entry.{Entry}

@@ -1,7 +1,7 @@
 use Rattle.std.proofs.Common.{◌+◌, ◌∙◌, refl, sym, subst, ap, fold}
-use Rattle.tool.specs.Outcomes.{RunOutcome, run_outcome_of}
+use Rattle.tool.specs.Outcomes.{run_outcome_of}
 use Rattle.judged.specs.Benches.{BenchFits}
-use Rattle.judged.specs.Judgements.{nothing_judged, with_entry}
+use Rattle.judged.specs.Judgements.{with_entry}
 use Rattle.judged.specs.declared.judging.Judging.{Judging}
 use Rattle.judged.proofs.Folded.{one_more, goes_on, all_judged, whole_script}
 use Rattle.judged.proofs.judging.judge_all.Goals as goal
