@@ -4,12 +4,12 @@ use Rattle.judged.specs.Benches.{BenchFits}
 use Rattle.judged.specs.Judgements.{with_entry}
 use Rattle.judged.specs.declared.judging.Judging.{Judging}
 use Rattle.judged.proofs.Folded.{one_more, goes_on, all_judged, whole_script}
-use Rattle.judged.proofs.judging.judge_all.Goals as goal
+use Rattle.judged.proofs.judging.judge_on.Goals as goal
 
 pub loop-entry-init : goal.loop-entry-init
 loop-entry-init c = (
-  c.new-bench.ensures.stands,
-  subst (BenchFits c.new-bench.result c.args.options.now) (sym c.new-judging.ensures) (c.new-bench.ensures.fits c.args.options.now),
+  c.requires.stands,
+  subst (BenchFits c.args.bench.now c.args.options.now) (sym c.new-judging.ensures) c.requires.fits,
   ap (λ j. fold (with_entry c.args.options.now c.args.freedoms.now) j c.args.entries.now) c.new-judging.ensures,
 )
 
