@@ -3,4 +3,6 @@ mod SameLines
 mod NamedFreedoms
 mod Numbered
 mod Verdicts
+mod WholeScripts
+mod Folded
 mod OwnAnswers

@@ -1,14 +1,16 @@
 -- The transcript that the model's own answers to a script make.
 use Rattle.std.proofs.Common.{◌≡◌, ℕ, ◌+◌, ◌==◌, rules, Bool, true, false, not, ◌&&◌, ◌||◌, cond, List, [], ◌∷◌, ◌++◌, map, length, fold, filter, inl, inr, ◌⊎◌, refl, sym, ap, ap₂, ◌∙◌, arith, append_assoc, append-nil}
 use Rattle.std.proofs.lemmas.Bool.{false≢true}
-use Rattle.std.proofs.lemmas.Grind.{fold-append}
-use Rattle.std.specs.List.{list_any, list_all}
+use Rattle.std.proofs.lemmas.Grind.{fold-append, flat_map-append}
+use Rattle.std.specs.List.{list_any, list_all, flat_map}
 use Rattle.sp_cells.specs.Config.{Config}
-use Rattle.tool.specs.Scripts.{is_skipped, with_numbers}
-use Rattle.judged.specs.Transcripts.{with_line_end, answer_mark, is_answer_line, answer_told, fresh_entry, with_answer, with_remark, line_added, nothing_read, all_entries, holds_remarks}
-use Rattle.judged.specs.Answers.{said_behind, is_audit, wanted_of, reasons_behind}
-use Rattle.judged.specs.Judgements.{are_same, freedom_of, verdict_beside, entry_verdict, wanted_at, other_at, through, ruling_at, rulings_at, with_entry, nothing_judged, rulings_of, is_agreement}
+use Rattle.tool.specs.Scripts.{is_skipped, script_lines, with_numbers}
+use Rattle.judged.specs.Transcripts.{with_line_end, answer_marks, is_answer_line, answer_told, fresh_entry, with_answer, with_remark, line_added, nothing_read, all_entries, holds_remarks, own_line_text, remarks_text, entry_text}
+use Rattle.judged.specs.Answers.{said_behind, is_audit, reasons_told, wanted_of}
+use Rattle.judged.specs.Blanks.{first_answer}
+use Rattle.judged.specs.Judgements.{are_same, freedom_of, verdict_beside, through, printed_at, own_reasons, entry_verdict, ruling_at, rulings_at, with_entry, nothing_judged, rulings_of, is_agreement}
 use Rattle.judged.specs.Laws.{OwnAnswersLaw, answer_line, marks_for, own_lines, own_transcript}
+use Rattle.judged.specs.declared.bench.Printed.{Printed}
 use Rattle.judged.specs.declared.entry.Entry.{Entry}
 use Rattle.judged.specs.declared.freedom.Freedom.{Freedom}
 use Rattle.judged.specs.declared.judging.Judging.{Judging}
@@ -43,20 +45,23 @@ wanted_own said = at (list_any is_audit said) refl
     at false is = keeps_plain said is
 
 -- answers that are what the model says agree
-agreed : (config : Config) (freedoms : List Freedom) (before other : List ℕ) (entry : Entry)
-    → entry.answers ≡ said_behind config before (through before entry) → entry_verdict config freedoms before other entry ≡ Agrees
-agreed config freedoms before other entry is =
-    let wanted : wanted_at config before entry ≡ entry.answers =
+agreed : (freedoms : List Freedom) (asked : List ℕ) (entry : Entry) (printed : Printed)
+    → entry.answers ≡ script_lines printed.said → entry_verdict freedoms asked entry printed ≡ Agrees
+agreed freedoms asked entry printed is =
+    let said = script_lines printed.said in
+    let other = first_answer (script_lines printed.other) in
+    let reasons = reasons_told entry.line (own_reasons printed) asked in
+    let wanted : wanted_of entry.answers said ≡ entry.answers =
     sym (ap (λ said. wanted_of entry.answers said) is) ∙ wanted_own entry.answers in
-    let same : are_same entry.answers (wanted_at config before entry) ≡ true =
-    (are_same-Decides entry.answers (wanted_at config before entry)).1 (sym wanted) in
-    ap (λ t. cond t Agrees (verdict_beside (freedom_of freedoms entry.line entry.answers (wanted_at config before entry) (other_at config other entry)) entry.answers (wanted_at config before entry) (reasons_behind config before (through before entry)))) same
+    let same : are_same entry.answers (wanted_of entry.answers said) ≡ true =
+    (are_same-Decides entry.answers (wanted_of entry.answers said)).1 (sym wanted) in
+    ap (λ t. cond t Agrees (verdict_beside (freedom_of freedoms entry.line entry.answers (wanted_of entry.answers said) other) entry.answers (wanted_of entry.answers said) reasons)) same
 
 -- so far all agree, and the line at hand has no answer, or the model's
 record Fits (config : Config) (freedoms : List Freedom) (before : List ℕ) (reading : Reading) (judging : Judging) : Type 0 where
   judged : fold (with_entry config freedoms) nothing_judged reading.done ≡ judging
   agree : list_all test judging.rulings ≡ true
-  script : judging.script ++ reading.current.script ≡ before
+  script : judging.script ++ entry_text reading.current ≡ before
   answers : (reading.current.answers ≡ []) ⊎ (reading.current.answers ≡ said_behind config judging.script (through judging.script reading.current))
 
 all-append : (xs ys : List Ruling) → list_all test xs ≡ true → list_all test ys ≡ true → list_all test (xs ++ ys) ≡ true
@@ -68,20 +73,20 @@ all-append (x ∷ xs) ys a b =
 -- the line at hand agrees, too
 at_hand : (config : Config) (freedoms : List Freedom) (judging : Judging) (entry : Entry)
     → (entry.answers ≡ []) ⊎ (entry.answers ≡ said_behind config judging.script (through judging.script entry))
-    → list_all test (rulings_at config freedoms judging.script judging.other entry) ≡ true
+    → list_all test (rulings_at freedoms judging.asked entry (printed_at config judging entry)) ≡ true
 at_hand config freedoms judging entry (inl none) =
-    ap (λ (answers : List (List ℕ)). list_all test (cond (length answers == 0) [] (ruling_at config freedoms judging.script judging.other entry ∷ []))) none
+    ap (λ (answers : List (List ℕ)). list_all test (cond (length answers == 0) [] (ruling_at freedoms judging.asked entry (printed_at config judging entry) ∷ []))) none
 at_hand config freedoms judging entry (inr is) = at (length entry.answers == 0)
   where
-    at : (t : Bool) → list_all test (cond t [] (ruling_at config freedoms judging.script judging.other entry ∷ [])) ≡ true
+    at : (t : Bool) → list_all test (cond t [] (ruling_at freedoms judging.asked entry (printed_at config judging entry) ∷ [])) ≡ true
     at true = refl
-    at false = ap (λ v. is_agreement v && true) (agreed config freedoms judging.script judging.other entry is)
+    at false = ap (λ v. is_agreement v && true) (agreed freedoms judging.asked entry (printed_at config judging entry) is)
 
 next : (config : Config) (freedoms : List Freedom) (before : List ℕ) (reading : Reading) (judging : Judging)
     → Fits config freedoms before reading judging
     → list_all test (with_entry config freedoms judging reading.current).rulings ≡ true
 next config freedoms before reading judging fits =
-    all-append judging.rulings (rulings_at config freedoms judging.script judging.other reading.current) fits.agree
+    all-append judging.rulings (rulings_at freedoms judging.asked reading.current (printed_at config judging reading.current)) fits.agree
     (at_hand config freedoms judging reading.current fits.answers)
 
 judged_all : (config : Config) (freedoms : List Freedom) (before : List ℕ) (reading : Reading) (judging : Judging)
@@ -98,11 +103,15 @@ final config freedoms before reading judging fits =
     ap (λ (j : Judging). list_all test j.rulings) (judged_all config freedoms before reading judging fits)
     ∙ next config freedoms before reading judging fits
 
+-- the marks of answers
+abbrev marks_of : Bool → List (List ℕ) → List (List ℕ)
+marks_of remarks answers = flat_map (λ (answer : List ℕ). answer_marks remarks) answers
+
 -- answers are read behind a line
 abbrev answered : Bool → Reading → List (List ℕ) → Reading
 answered remarks reading answers = record reading {
   current = record reading.current {
-    script = reading.current.script ++ marks_for remarks answers;
+    behind = reading.current.behind ++ marks_of remarks answers;
     answers = reading.current.answers ++ answers;
   };
 }
@@ -111,9 +120,9 @@ neither : (t r : Bool) → (t || r) ≡ false → (t ≡ false) × (r ≡ false)
 neither true r e = absurd (false≢true (sym e))
 neither false r e = (refl, e)
 
-abbrev reading_with : Reading → List ℕ → List (List ℕ) → Reading
-reading_with reading script answers =
-    record reading { current = record reading.current { script = script; answers = answers } }
+abbrev reading_with : Reading → List (List ℕ) → List (List ℕ) → Reading
+reading_with reading behind answers =
+    record reading { current = record reading.current { behind = behind; answers = answers } }
 
 abbrev answer_read : Bool → Reading → List ℕ → Reading
 answer_read remarks reading text = record reading { current = with_answer remarks reading.current (answer_told text) }
@@ -136,16 +145,16 @@ reads : (remarks : Bool) (answers : List (List ℕ)) (n : ℕ) (reading : Readin
     → read_on remarks reading n (map answer_line answers ++ rest) ≡ read_on remarks (answered remarks reading answers) (n + length answers) rest
 unfolding with_numbers
 reads remarks [] n reading rest some =
-    ap₂ (λ (s : List ℕ) (bs : List (List ℕ)). read_on remarks (reading_with reading s bs) n rest)
-    (sym (append-nil reading.current.script)) (sym (append-nil reading.current.answers))
+    ap₂ (λ (s : List (List ℕ)) (bs : List (List ℕ)). read_on remarks (reading_with reading s bs) n rest)
+    (sym (append-nil reading.current.behind)) (sym (append-nil reading.current.answers))
     ∙ ap (λ m. read_on remarks (answered remarks reading []) m rest) (omega arith)
 reads remarks (a ∷ more) n reading rest some =
     let one : Reading = record reading { current = with_answer remarks reading.current a } in
     let step : line_added remarks reading (record { number = n + 1; text = answer_line a }) ≡ one =
     ap (λ t. cond (not t) one (cond (is_skipped remarks (answer_line a)) (remark_read reading (answer_line a)) (line_read reading (n + 1) (answer_line a)))) some in
     let grown : answered remarks one more ≡ answered remarks reading (a ∷ more) =
-    ap₂ (λ (s : List ℕ) (bs : List (List ℕ)). reading_with reading s bs)
-    (append_assoc reading.current.script (answer_mark remarks) (marks_for remarks more)) (append_assoc reading.current.answers (a ∷ []) more) in
+    ap₂ (λ (s : List (List ℕ)) (bs : List (List ℕ)). reading_with reading s bs)
+    (append_assoc reading.current.behind (answer_marks remarks) (marks_of remarks more)) (append_assoc reading.current.answers (a ∷ []) more) in
     ap (λ r. read_on remarks r (n + 1) (map answer_line more ++ rest)) step
     ∙ reads remarks more (n + 1) one rest some
     ∙ ap₂ (λ (r : Reading) (m : ℕ). read_on remarks r m rest) grown (omega arith)
@@ -170,6 +179,14 @@ abbrev Behind : Config → List Freedom → Bool → List (List ℕ) → Type 0
 Behind config freedoms remarks texts = (n : ℕ) (before : List ℕ) (reading : Reading) (judging : Judging)
     → Fits config freedoms before reading judging → AgreeAll config freedoms (read_on remarks reading n (own_lines remarks config before texts))
 
+-- a remark more in the text of an entry
+remark_more : (script : List ℕ) (entry : Entry) (text : List ℕ)
+    → script ++ entry_text (with_remark entry text) ≡ (script ++ entry_text entry) ++ with_line_end text
+remark_more script entry text =
+    ap (λ more. script ++ (own_line_text entry ++ more)) (flat_map-append with_line_end entry.behind (text ∷ []) ∙ ap (λ end. remarks_text entry ++ end) (append-nil (with_line_end text)))
+    ∙ ap (λ more. script ++ more) (sym (append_assoc (own_line_text entry) (remarks_text entry) (with_line_end text)))
+    ∙ sym (append_assoc script (entry_text entry) (with_line_end text))
+
 own_by : (config : Config) (freedoms : List Freedom) (remarks : Bool) (text : List ℕ) (texts : List (List ℕ)) (n : ℕ) (before : List ℕ)
     (reading : Reading) (judging : Judging) → Behind config freedoms remarks texts → is_answer_line text ≡ false
     → Fits config freedoms before reading judging → (t : Bool) → is_skipped remarks text ≡ t
@@ -185,7 +202,7 @@ own_by config freedoms remarks text texts n before reading judging behind no_ans
     (record {
       judged = fits.judged;
       agree = fits.agree;
-      script = sym (append_assoc judging.script reading.current.script (with_line_end text)) ∙ ap (λ b. b ++ with_line_end text) fits.script;
+      script = remark_more judging.script reading.current text ∙ ap (λ b. b ++ with_line_end text) fits.script;
       answers = fits.answers;
     })
 own_by config freedoms remarks text texts n before reading judging behind no_answer fits false is =
@@ -201,8 +218,12 @@ own_by config freedoms remarks text texts n before reading judging behind no_ans
     (record {
       judged = judged_all config freedoms before reading judging fits;
       agree = next config freedoms before reading judging fits;
-      script = ap (λ b. b ++ (with_line_end text ++ marks_for remarks said)) fits.script;
-      answers = inr (ap (λ b. said_behind config b (b ++ with_line_end text)) (sym fits.script));
+      script = ap (λ (t : Bool). (judging.script ++ entry_text reading.current) ++ (cond t [] (with_line_end text) ++ marks_for remarks said)) some
+          ∙ ap (λ b. b ++ (with_line_end text ++ marks_for remarks said)) fits.script;
+      answers = inr (
+          ap (λ b. said_behind config b (b ++ with_line_end text)) (sym fits.script)
+          ∙ ap (λ (t : Bool). said_behind config (judging.script ++ entry_text reading.current) ((judging.script ++ entry_text reading.current) ++ cond t [] (with_line_end text))) (sym some)
+          );
     })
 
 own_from : (config : Config) (freedoms : List Freedom) (remarks : Bool) (texts : List (List ℕ)) → list_any is_answer_line texts ≡ false

@@ -19,6 +19,6 @@ BenchFits bench config judging = RanTo bench.model false config judging.script
     × RanTo bench.other false config judging.other
 
 -- the scripts go on by the line of an entry
-abbrev pub GoesOn : Judging → Judging → Entry → Type 0
-GoesOn judging later entry = (later.script ≡ judging.script ++ entry_text entry)
+abbrev pub ScriptsGoOn : Judging → Judging → Entry → Type 0
+ScriptsGoOn judging later entry = (later.script ≡ judging.script ++ entry_text entry)
     × (later.other ≡ judging.other ++ other_text entry)

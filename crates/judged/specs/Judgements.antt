@@ -6,10 +6,10 @@ use Rattle.sp_cells.specs.Config.{Config}
 use Rattle.tool.specs.Outcomes.{RunOutcome, Yields, ends, run_outcome_of}
 use Rattle.tool.specs.Scripts.{script_lines}
 use Rattle.script_lines.specs.Words.{nth_word}
-use Rattle.judged.specs.Transcripts.{line_text, entry_text, entries_of, script_of}
+use Rattle.judged.specs.Transcripts.{own_line_text, entry_text, entries_of, script_of}
 use Rattle.judged.specs.Answers.{text_behind, is_receiving, reasons_told, wanted_of}
 use Rattle.judged.specs.Blanks.{other_text, first_answer}
-use Rattle.judged.specs.Freedoms.{freedom_between, freedom_name}
+use Rattle.judged.specs.Freedoms.{asks_level0, freedom_between, freedom_name}
 use Rattle.judged.specs.declared.bench.Printed.{Printed}
 use Rattle.judged.specs.declared.entry.Entry.{Entry}
 use Rattle.judged.specs.declared.freedom.Freedom.{Freedom}
@@ -67,7 +67,7 @@ answers_verdict freedoms asked heard wanted other reasons =
 
 -- the script before a line, and the line
 abbrev pub through : List ℕ → Entry → List ℕ
-through before entry = before ++ line_text entry
+through before entry = before ++ own_line_text entry
 
 -- what the model prints for the line of an entry behind the script before it; the same where reasons are
 -- told; and what it prints where every write before wrote another byte
@@ -91,11 +91,13 @@ entry_verdict freedoms asked entry printed =
     (reasons_told entry.line (own_reasons printed) asked)
 
 -- A line whose answer tells what the drive did: behind a wrong one it may be in another state than the model. A
--- read leaves all as it was, and so does a line that prints nothing.
+-- read, also of Level 0, leaves all as it was, and so does a line that prints nothing. What a client of a port
+-- takes was done at an earlier line.
 abbrev pub can_change : List ℕ → Bool
 can_change line = not (bytes_eq (nth_word 0 line) (codes "dread")
-    || bytes_eq (nth_word 0 line) (codes "identify") || bytes_eq (nth_word 0 line) (codes "range")
-    || bytes_eq (nth_word 0 line) (codes "port") || bytes_eq (nth_word 0 line) (codes "expect"))
+    || bytes_eq (nth_word 0 line) (codes "identify") || bytes_eq (nth_word 0 line) (codes "take")
+    || bytes_eq (nth_word 0 line) (codes "range") || bytes_eq (nth_word 0 line) (codes "port")
+    || bytes_eq (nth_word 0 line) (codes "expect")) && not (asks_level0 line)
 
 abbrev pub ruling_at : List Freedom → List ℕ → Entry → Printed → Ruling
 ruling_at freedoms asked entry printed = record {

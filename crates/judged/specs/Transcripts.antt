@@ -83,8 +83,8 @@ entries_of lines =
     all_entries (fold (line_added (holds_remarks lines)) nothing_read (with_numbers 0 lines))
 
 -- the line of an entry in the text of the script; in front of the first line there is none
-abbrev pub line_text : Entry → List ℕ
-line_text entry = if entry.number == 0 then [] else with_line_end entry.line
+abbrev pub own_line_text : Entry → List ℕ
+own_line_text entry = if entry.number == 0 then [] else with_line_end entry.line
 
 -- the remarks behind it
 abbrev pub remarks_text : Entry → List ℕ
@@ -92,7 +92,7 @@ remarks_text entry = flat_map with_line_end entry.behind
 
 -- the text of the script from the line on, up to the next
 abbrev pub entry_text : Entry → List ℕ
-entry_text entry = line_text entry ++ remarks_text entry
+entry_text entry = own_line_text entry ++ remarks_text entry
 
 -- the script of a transcript
 abbrev pub script_of : List Entry → List ℕ

@@ -3,7 +3,6 @@
 ghost use Rattle.std.specs.Prelude.{◌≡◌, ◌++◌, ℕ, Bool, List, IfOk, OnOk};
 ghost use Rattle.runs.specs.Stepped.{RanTo, RunStands};
 ghost use Rattle.judged.specs.Answers.{text_behind};
-ghost use Rattle.judged.specs.Blanks.{other_text};
 ghost use Rattle.judged.specs.Judgements.{through};
 ghost use Rattle.judged.specs.Transcripts.{entry_text};
 
@@ -61,32 +60,11 @@ fn print_entry(
     Ok(printed)
 }
 
-/// Does what stands for it where every line writes another byte, and gives what that prints.
-fn print_other(
-    alloc: Global,
-    options: &Options,
-    run: &mut SteppedRun,
-    entry: &Entry,
-) -> Result<Text, RunError>
-    requires { RunStands run.old }
-    ensures stands { OnOk result (RunStands run.new) }
-    ensures ran { OnOk result ((explains : Bool) (before : List ℕ)
-        → RanTo run.old explains options.now before
-        → RanTo run.new explains options.now (before ++ other_text entry.now)) }
-    ensures printed { IfOk result (λ printed. (explains : Bool) (before : List ℕ)
-        → RanTo run.old explains options.now before → printed
-        ≡ text_behind explains options.now before (before ++ other_text entry.now)) }
-{
-    let mut text = Text::new(alloc);
-    append_other_text(&mut text, entry)?;
-    print_text(alloc, options, run, text.as_slice())
-}
-
 impl Bench {
     ghost use Rattle.std.specs.Prelude.{◌≡◌, IfOk, OnOk};
     ghost use Rattle.sp_cells.specs.Config.{Config};
     ghost use Rattle.tool.specs.Outcomes.{run_outcome_of};
-    ghost use Rattle.judged.specs.Benches.{BenchFits, BenchStands, GoesOn};
+    ghost use Rattle.judged.specs.Benches.{BenchFits, BenchStands, ScriptsGoOn};
     ghost use Rattle.judged.specs.Judgements.{nothing_judged, printed_at};
     ghost use Rattle.judged.specs.declared.judging.Judging.{Judging};
 
@@ -115,12 +93,14 @@ impl Bench {
             → BenchFits self.old options.now judging
             → printed ≡ printed_at options.now judging entry.now) }
         ensures fits { OnOk result ((judging later : Judging)
-            → BenchFits self.old options.now judging → GoesOn judging later entry.now
+            → BenchFits self.old options.now judging → ScriptsGoOn judging later entry.now
             → BenchFits self.new options.now later) }
     {
         let said = print_entry(alloc, options, &mut self.model, entry)?;
         let explained = print_entry(alloc, options, &mut self.explained, entry)?;
-        let other = print_other(alloc, options, &mut self.other, entry)?;
+        let mut text = Text::new(alloc);
+        append_other_text(&mut text, entry)?;
+        let other = print_text(alloc, options, &mut self.other, text.as_slice())?;
         Ok(Printed {
             said,
             explained,

@@ -72,7 +72,7 @@ impl Model for Entries {
 
 impl Entry {
     ghost use Rattle.std.specs.Prelude.{◌≡◌, ◌++◌, IfOk, OnOk};
-    ghost use Rattle.judged.specs.Transcripts.{front_entry, fresh_entry, with_answer, with_remark, line_text, remarks_text, entry_text};
+    ghost use Rattle.judged.specs.Transcripts.{front_entry, fresh_entry, with_answer, with_remark, own_line_text, remarks_text, entry_text};
 
     /// What stands in front of the first line.
     pub fn front(alloc: Global) -> Entry
@@ -102,7 +102,7 @@ impl Entry {
 
     /// Appends the line as it stands in the text of the script; in front of the first line there is none.
     pub fn append_line_text(&self, text: &mut Text) -> Result<(), AllocError>
-        ensures { OnOk result (text.new ≡ text.old ++ line_text self.now) }
+        ensures { OnOk result (text.new ≡ text.old ++ own_line_text self.now) }
     {
         if self.number == 0 {
             return Ok(());

@@ -168,7 +168,7 @@ fn differs_within(spans: &[Span], heard: &[u8], wanted: &[u8]) -> bool
 }
 
 /// Whether a line receives Level 0 discovery.
-fn asks_level0(line: &[u8]) -> bool
+pub(crate) fn asks_level0(line: &[u8]) -> bool
     ensures { result ≡ asks_level0 line.now }
 {
     let mut words = Words::new(line);

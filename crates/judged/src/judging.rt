@@ -2,14 +2,15 @@
 
 ghost use Rattle.std.specs.Prelude.{◌≡◌, ◌++◌, ◌∷◌, IfOk, OnOk};
 ghost use Rattle.tool.specs.Outcomes.{run_outcome_of};
-ghost use Rattle.judged.specs.Judgements.{are_same, freedom_of, behind_commas, joined_answer, answer_behind_words, wrong_text, verdict_beside, answers_verdict, can_change, own_reasons, entry_verdict, rulings_of};
+ghost use Rattle.judged.specs.Benches.{BenchFits, BenchStands};
+ghost use Rattle.judged.specs.Judgements.{are_same, freedom_of, behind_commas, joined_answer, answer_behind_words, wrong_text, verdict_beside, answers_verdict, can_change, own_reasons, entry_verdict, nothing_judged, rulings_of};
 ghost use Rattle.judged.specs.Transcripts.{script_of};
 
 use crate::answers::{behind, is_receiving, reasons_told, wanted_of};
 use crate::bench::{Bench, Printed};
 use crate::blanks::{append_other_text, first_answer};
 use crate::entry::Entry;
-use crate::freedom::{Freedom, Freedoms};
+use crate::freedom::{Freedom, Freedoms, asks_level0};
 use crate::ruling::{Ruling, Rulings, Verdict};
 use crate::text::Text;
 use basics::Bytes;
@@ -157,9 +158,11 @@ fn can_change(line: &[u8]) -> bool
     let verb = Words::new(line).next_word();
     !(verb == b"dread".as_slice()
         || verb == b"identify".as_slice()
+        || verb == b"take".as_slice()
         || verb == b"range".as_slice()
         || verb == b"port".as_slice()
         || verb == b"expect".as_slice())
+        && !asks_level0(line)
 }
 
 /// How the answers to a line stand to what the model prints.
@@ -180,7 +183,15 @@ fn entry_verdict(
     let other = Lines::of_script(alloc, printed.other.as_slice())?;
     let other = first_answer(other.as_slice());
     let reasons = reasons_told(line, own_reasons(printed), asked);
-    answers_verdict(alloc, freedoms, line, heard, wanted.as_slice(), other, reasons)
+    answers_verdict(
+        alloc,
+        freedoms,
+        line,
+        heard,
+        wanted.as_slice(),
+        other,
+        reasons,
+    )
 }
 
 /// The reasons of what a line prints.
@@ -282,6 +293,29 @@ impl Judging {
     }
 }
 
+/// How the answers of a transcript stand to what these runs print, of which no line has run.
+fn judge_on(
+    alloc: Global,
+    options: &Options,
+    freedoms: &Freedoms,
+    bench: &mut Bench,
+    entries: &[Entry],
+) -> Result<(Rulings, u8), RunError>
+    requires stands { BenchStands bench.old }
+    requires fits { BenchFits bench.old options.now nothing_judged }
+    ensures rulings { IfOk result (λ judged. judged.0
+        ≡ rulings_of options.now freedoms.now entries.now) }
+    ensures status { IfOk result (λ judged. judged.1
+        ≡ (run_outcome_of options.now (script_of entries.now)).status) }
+{
+    let mut judging = Judging::new(alloc);
+    for entry in entries {
+        let printed = bench.print(alloc, options, entry)?;
+        judging.add(alloc, freedoms, entry, &printed)?;
+    }
+    Ok((judging.rulings, bench.status()))
+}
+
 /// How the answers of a transcript stand to the model's, and the status of its script.
 pub(crate) fn judge_all(
     alloc: Global,
@@ -295,10 +329,7 @@ pub(crate) fn judge_all(
         ≡ (run_outcome_of options.now (script_of entries.now)).status) }
 {
     let mut bench = Bench::new(alloc);
-    let mut judging = Judging::new(alloc);
-    for entry in entries {
-        let printed = bench.print(alloc, options, entry)?;
-        judging.add(alloc, freedoms, entry, &printed)?;
-    }
-    Ok((judging.rulings, bench.status()))
+    let judged = judge_on(alloc, options, freedoms, &mut bench, entries);
+    drop(bench);
+    judged
 }

@@ -2,6 +2,7 @@
 
 ghost use Rattle.std.specs.Prelude.{◌≡◌, ◌≤◌, IfOk};
 ghost use Rattle.std.specs.Io.KnownBytes.{Appends};
+ghost use Rattle.runs.specs.Stepped.{RunStands};
 ghost use Rattle.tool.specs.Outcomes.{Yields};
 ghost use Rattle.judged.specs.Judgements.{rulings_told, judgement_of_entries, JudgesTranscript};
 
@@ -52,9 +53,11 @@ fn tell_line<E: Write>(
 fn script_to_end(
     alloc: Global,
     options: &Options,
+    run: &mut SteppedRun,
     entries: &[Entry],
-) -> Result<(Text, u64), RunError> {
-    let mut run = SteppedRun::new(alloc, false);
+) -> Result<(Text, u64), RunError>
+    requires { RunStands run.old }
+{
     let mut script = Text::new(alloc);
     for entry in entries {
         let mut text = Text::new(alloc);
@@ -75,7 +78,10 @@ fn tell_end<E: Write>(
     entries: &[Entry],
     faults: &mut E,
 ) -> Result<(), RunError> {
-    let (script, number) = script_to_end(alloc, options, entries)?;
+    let mut run = SteppedRun::new(alloc, false);
+    let found = script_to_end(alloc, options, &mut run, entries);
+    drop(run);
+    let (script, number) = found?;
     let mut told = Vec::new(alloc);
     let text = script.as_slice();
     run_script_with_faults(alloc, text, &mut io::sink(), &mut told, options)?;

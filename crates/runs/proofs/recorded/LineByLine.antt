@@ -1,5 +1,5 @@
 -- A run of a script whose lines come piece by piece.
-use Rattle.std.proofs.Common.{◌≡◌, ◌∙◌, ◌<◌, ◌≤◌, ℕ, zero, suc, ◌+◌, arith, length, drop, get_or, Bool, true, false, List, [], ◌∷◌, ◌++◌, refl, sym, ap, subst, append_assoc, append-nil, Result, Ok, Err, IfOk}
+use Rattle.std.proofs.Common.{◌≡◌, ◌∙◌, ◌<◌, ◌≤◌, ℕ, zero, suc, ◌+◌, arith, length, drop, get_or, Bool, true, false, List, [], ◌∷◌, ◌++◌, refl, sym, ap, subst, append_assoc, append-nil, Result, Ok, Err}
 use Rattle.std.specs.Prelude.{if◌then◌else◌}
 use Rattle.sp_cells.specs.Config.{Config}
 use Rattle.history.specs.Opening.{Origin}
@@ -7,18 +7,17 @@ use Rattle.script_lines.specs.Texts.{last_of}
 use Rattle.script_lines.specs.declared.report.Report.{Report}
 use Rattle.drive_scripts.specs.declared.turn.Turn.{Turn}
 use Rattle.drive_scripts.specs.declared.turn.Turn.TheVariants as turns
-use Rattle.tool.specs.Scripts.{ScriptLine, lines_of_text, script_lines, with_numbers, without_remarks, is_skipped, may_hold_remarks, drive_kind, kind_of_script, effective_lines}
+use Rattle.tool.specs.Scripts.{ScriptLine, lines_of_text, script_lines, with_numbers, without_remarks, is_skipped, may_hold_remarks, drive_kind}
 use Rattle.tool.specs.Courses.{Course, Advance, PhaseRunsOn, PhaseStands, course_step, start}
-use Rattle.tool.specs.Outcomes.{RunOutcome, ends, printed_first, printed_by, onward, outcome_on, outcome_of_lines, outcome_by}
+use Rattle.tool.specs.Outcomes.{RunOutcome, ends, printed_first, printed_by, onward, outcome_on, outcome_by}
 use Rattle.tool.specs.Progress.{Steps, step_or_skip}
 use Rattle.tool.specs.declared.opening.OpeningPhase.TheVariants.{Factory}
 use Rattle.tool.specs.declared.phase.Phase.{Phase}
-use Rattle.runs.specs.Recordings.{recording_opened, recording_from, recording_of_lines, stops}
+use Rattle.runs.specs.Recordings.{recording_from, recording_of_lines, stops}
 use Rattle.runs.specs.Progress.{TurnsSo, front_recording, line_at}
-use Rattle.runs.specs.Stepped.{WholeLines, stage_behind, StageStands, outcome_of_texts, outcome_recorded, lines_behind, front_comes, run_comes, IsSilent, StageLeads, RunMakes, FrontMakes, LineMakes, LinesCame, RanTo, RunStands}
+use Rattle.runs.specs.Stepped.{WholeLines, stage_behind, StageStands, outcome_of_texts, outcome_recorded, lines_behind, front_comes, run_comes, StageLeads, RunMakes, FrontMakes, LineMakes, LinesCame, RanTo, RunStands}
 use Rattle.runs.specs.declared.recorded.front.Front.{Front}
 use Rattle.runs.specs.declared.recorded.front.Front.TheVariants as fronts
-use Rattle.runs.specs.declared.recorded.front.FrontTurn.{FrontTurn}
 use Rattle.runs.specs.declared.recorded.front.FrontTurn.TheVariants as front_turns
 use Rattle.runs.specs.declared.recorded.stepped.Stage.{Stage}
 use Rattle.runs.specs.declared.recorded.stepped.Stage.TheVariants.{Untold, InFront, Runs, Ended}

@@ -22,19 +22,19 @@ use Rattle.runs.specs.Recordings.{Recording, continued, recording_on, recording_
 use Rattle.runs.specs.Progress.{Records}
 
 -- without its frames
-abbrev outcome_recorded : Recording → RunOutcome
-outcome_recorded recording = record { text = recording.text; status = recording.status }
+abbrev outcome_in : Recording → RunOutcome
+outcome_in recording = record { text = recording.text; status = recording.status }
 
 step-so : (o : Origin) (last : List ℕ) (line : ScriptLine) (result : Result Advance ℕ)
     (runs : Advance → RunOutcome) (records : Advance → Recording)
-    → ((made : Advance) → runs made ≡ outcome_recorded (records made))
-    → onward runs result ≡ outcome_recorded (continued o last line records result)
+    → ((made : Advance) → runs made ≡ outcome_in (records made))
+    → onward runs result ≡ outcome_in (continued o last line records result)
 step-so o last line (Ok made) runs records same =
     ap (λ (r : RunOutcome). onward (λ _. r) (Ok made)) (same made)
 step-so o last line (Err status) runs records same = refl
 
 pub on-so : (o : Origin) (course : Course) (last : List ℕ) (lines : List ScriptLine)
-    → outcome_on o course last lines ≡ outcome_recorded (recording_on o course last lines)
+    → outcome_on o course last lines ≡ outcome_in (recording_on o course last lines)
 unfolding outcome_on recording_on
 on-so o course last [] = refl
 on-so o course last (line ∷ lines) =
@@ -44,31 +44,31 @@ on-so o course last (line ∷ lines) =
     (λ made. on-so o made.course (last_of last made.lines) lines)
 
 set-so : (o : Origin) (row : RangeRow) (fault : Option SetError) (runs : OpeningPhase → RunOutcome)
-    (records : OpeningPhase → Recording) → ((next : OpeningPhase) → runs next ≡ outcome_recorded (records next))
-    → set_then runs o row fault ≡ outcome_recorded (row_set records o row fault)
+    (records : OpeningPhase → Recording) → ((next : OpeningPhase) → runs next ≡ outcome_in (records next))
+    → set_then runs o row fault ≡ outcome_in (row_set records o row fault)
 set-so o row None runs records same = same _
 set-so o row (Some error) runs records same = refl
 
 given-so : (phase : OpeningPhase) (row : Option RangeRow) (runs : OpeningPhase → RunOutcome)
     (records : OpeningPhase → Recording) (run : RunOutcome) (recording : Recording)
-    → ((next : OpeningPhase) → runs next ≡ outcome_recorded (records next)) → run ≡ outcome_recorded recording
-    → opened_by runs run phase row ≡ outcome_recorded (row_given records recording phase row)
+    → ((next : OpeningPhase) → runs next ≡ outcome_in (records next)) → run ≡ outcome_in recording
+    → opened_by runs run phase row ≡ outcome_in (row_given records recording phase row)
 given-so phase (Some row) runs records run recording same is =
     set-so (base_of phase) row (row_fault (base_of phase) row) runs records same
 given-so phase None runs records run recording same is = is
 
 read-so : (phase : OpeningPhase) (read : Result (Option RangeRow) LineFault)
     (runs : OpeningPhase → RunOutcome) (records : OpeningPhase → Recording) (run : RunOutcome)
-    (recording : Recording) → ((next : OpeningPhase) → runs next ≡ outcome_recorded (records next))
-    → run ≡ outcome_recorded recording
-    → opened runs run phase read ≡ outcome_recorded (row_read records recording phase read)
+    (recording : Recording) → ((next : OpeningPhase) → runs next ≡ outcome_in (records next))
+    → run ≡ outcome_in recording
+    → opened runs run phase read ≡ outcome_in (row_read records recording phase read)
 read-so phase (Ok row) runs records run recording same is =
     given-so phase row runs records run recording same is
 read-so phase (Err fault) runs records run recording same is = refl
 
 from-so : (explains : Bool) (kind : ScriptKind) (phase : OpeningPhase) (lines : List ScriptLine)
     → outcome_from explains kind phase lines
-    ≡ outcome_recorded (recording_from explains kind phase lines)
+    ≡ outcome_in (recording_from explains kind phase lines)
 unfolding outcome_from recording_from
 from-so explains kind phase [] = refl
 from-so explains kind phase (line ∷ lines) =
@@ -83,7 +83,7 @@ either-so : (on_port explains : Bool) (kind : ScriptKind) (phase : OpeningPhase)
     (lines : List ScriptLine)
     → (if on_port then outcome_from explains kinds.Port phase lines
     else outcome_from explains kind phase (first ∷ lines))
-    ≡ outcome_recorded
+    ≡ outcome_in
     (if on_port then recording_from explains kinds.Port phase lines
     else recording_from explains kind phase (first ∷ lines))
 either-so true explains kind phase first lines = from-so explains kinds.Port phase lines
@@ -91,13 +91,13 @@ either-so false explains kind phase first lines = from-so explains kind phase (f
 
 pub lines-so : (explains : Bool) (kind : ScriptKind) (config : Config) (lines : List ScriptLine)
     → outcome_of_lines explains kind config lines
-    ≡ outcome_recorded (recording_of_lines explains kind (Factory config) lines)
+    ≡ outcome_in (recording_of_lines explains kind (Factory config) lines)
 lines-so explains kind config [] = refl
 lines-so explains kind config (first ∷ lines) =
     either-so (is_port_line first.text) explains kind (Factory config) first lines
 
 pub outcome-so : (explains : Bool) (config : Config) (text : List ℕ)
-    → outcome_by explains config text ≡ outcome_recorded (recording_by explains config text)
+    → outcome_by explains config text ≡ outcome_in (recording_by explains config text)
 outcome-so explains config text =
     lines-so explains (kind_of_script (script_lines text)) config (effective_lines (script_lines text))
 

@@ -1,7 +1,7 @@
 use Rattle.std.proofs.Common.{sym, subst}
 use Rattle.std.proofs.lemmas.Result.{IfOk-weaker}
-use Rattle.runs.specs.Stepped.{LineMakes, StageStands}
-use Rattle.runs.proofs.recorded.LineByLine.{untold-makes, front-makes, running-makes, ended-makes}
+use Rattle.runs.specs.Stepped.{LineMakes}
+use Rattle.runs.proofs.recorded.LineByLine.{untold-makes, front-makes, running-makes}
 use Rattle.runs.proofs.recorded.stepped.stage_line.Goals as goal
 
 pub returns-in-Untold-clause-makes : goal.returns-in-Untold-clause-makes

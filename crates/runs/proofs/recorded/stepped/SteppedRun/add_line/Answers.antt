@@ -1,6 +1,6 @@
-use Rattle.std.proofs.Common.{◌∙◌, refl, sym, subst}
-use Rattle.runs.specs.Stepped.{LineMakes, StageStands, StageLeads, outcome_of_texts}
-use Rattle.std.proofs.Common.{◌≡◌, ◌++◌, ◌∷◌, [], ◌+◌}
+use Rattle.std.proofs.Common.{refl, sym, subst}
+use Rattle.runs.specs.Stepped.{LineMakes, StageLeads, outcome_of_texts}
+use Rattle.std.proofs.Common.{◌++◌, ◌∷◌, [], ◌+◌}
 use Rattle.runs.proofs.recorded.LineByLine.{one-came}
 use Rattle.runs.proofs.recorded.stepped.SteppedRun.add_line.Goals as goal
 

@@ -2,8 +2,7 @@ use Rattle.std.proofs.Common.{◌≡◌, drop}
 use Rattle.std.specs.List.{fold}
 use Rattle.judged.specs.Benches.{BenchFits, BenchStands}
 use Rattle.judged.specs.Judgements.{with_entry, nothing_judged}
-use Rattle.judged.specs.Transcripts.{entry_text}
-use Rattle.judged.proofs.judging.judge_all.Given as goal
+use Rattle.judged.proofs.judging.judge_on.Given as goal
 
 abbrev pub invariant-loop-entry : goal.invariant-loop-entry
 invariant-loop-entry l =
