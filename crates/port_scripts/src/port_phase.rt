@@ -177,6 +177,7 @@ pub fn request_of(alloc: Global, asked: &PutRequest<'_>) -> Result<Request, Allo
 }
 
 /// The step that a line asks for, if it asks for one.
+#[inline(always)]
 pub(crate) fn step_in(alloc: Global, line: &PortLine<'_>) -> Result<Option<Step>, AllocError>
     requires { FitsPort line.now }
     ensures { IfOk result (λ step. step ≡ step_in line.now) }
@@ -340,6 +341,7 @@ impl PortPhase {
         }
     }
 
+    #[inline(always)]
     fn act(
         &mut self,
         line: &PortLine<'_>,
@@ -358,6 +360,7 @@ impl PortPhase {
     }
 
     /// Does a step, and prints that, or that it is refused. It gives why it is refused.
+    #[inline(always)]
     pub fn step(
         &mut self,
         step: &Step,
@@ -373,6 +376,7 @@ impl PortPhase {
     }
 
     /// Does a step for which there is room.
+    #[inline(always)]
     fn make(&mut self, step: &Step, report: &mut Report) -> Result<Option<PortError>, AllocError>
         ensures { IfOk result (PortMakes refusal_with_room step.now
             self.old self.new report.old report.new) }
@@ -393,6 +397,7 @@ impl PortPhase {
     }
 
     /// Prints that a step is done, and counts it, or prints why it is refused, and gives that.
+    #[inline(always)]
     fn told(
         &mut self,
         done: Result<u64, PortError>,
