@@ -1,8 +1,9 @@
 -- The acts of a port's steps as reasons see them.
-use Rattle.std.proofs.Common.{◌≡◌, ◌∙◌, ◌+◌, ◌<◌, ℕ, Bool, true, false, List, [], ◌∷◌, length, Option, Some, None, refl, sym, ap, subst}
+use Rattle.std.proofs.Common.{◌≡◌, ◌∙◌, ◌+◌, ◌<◌, ℕ, Bool, true, false, List, [], ◌∷◌, ◌++◌, length, reverse, Option, Some, None, refl, sym, ap, subst}
 use Rattle.std.specs.Prelude.{if◌then◌else◌, IfSome, nat_lt, not, is_some}
 use Rattle.audit.specs.declared.reason.Why.{Why}
 use Rattle.fis.specs.Tags.{slot_count}
+use Rattle.slots.specs.declared.fetched.Fetched.{Fetched}
 use Rattle.history.specs.Answers.{payload_of}
 use Rattle.history.specs.History.{Act, Accept}
 use Rattle.history.specs.Opening.{Origin}
@@ -25,6 +26,7 @@ use Rattle.port_history.specs.declared.stages.Stage.TheVariants.{Issued}
 use Rattle.port_history.specs.declared.step.Step.{Step}
 use Rattle.port_history.specs.declared.step.Step.TheVariants as steps
 use Rattle.reasons.specs.Onsets.{bare_acts, cause_at, cause_of, with_act}
+use Rattle.reasons.specs.declared.explained.onset.Cause.TheVariants.{NoCause}
 use Rattle.reasons.specs.declared.explained.onset.Counted.TheVariants.{Steps}
 use Rattle.drive_scripts.specs.Explanations.{denial_text}
 use Rattle.port_scripts.specs.PortActs.{LinedStep, act_payload, bare_steps, command_put, put_in_slot, put_named, slot_of, steps_done}

@@ -1,5 +1,5 @@
 -- What a step of a port script leaves of its port.
-use Rattle.std.proofs.Common.{◌≡◌, ℕ, ◌+◌, ◌-◌, ◌<◌, ◌≤◌, Bool, true, false, List, [], ◌∷◌, ◌++◌, length, reverse, Option, Some, None, Result, Ok, Err, OnOk, OnErr, IfOk, refl, sym, ap, subst, ◌∙◌, inl, inr, arith, le-ltb, lt-ltb, ltb-true}
+use Rattle.std.proofs.Common.{◌≡◌, ℕ, ◌+◌, ◌-◌, ◌<◌, ◌≤◌, Bool, true, false, List, [], ◌∷◌, ◌++◌, length, reverse, Option, Some, None, Result, Ok, Err, OnOk, OnErr, IfOk, refl, sym, ap, subst, ◌∙◌, append_assoc, inl, inr, arith, le-ltb, lt-ltb, ltb-true}
 use Rattle.std.specs.Prelude.{if◌then◌else◌, is_some, nat_lt, not, slice_get, unwrap_or}
 use Rattle.std.proofs.lemmas.List.{append-nil, reverse-append, length-append, length-reverse}
 use Rattle.std.proofs.lemmas.Option.{slice_get_past, slice_get_read}
@@ -16,7 +16,7 @@ use Rattle.port_history.specs.Refusals.{refusal, refusal_by, refusal_with_room, 
 use Rattle.port_history.specs.Requests.{no_bytes}
 use Rattle.port_history.specs.Stages.{put_at}
 use Rattle.history.specs.Audit.{line_for}
-use Rattle.port_history.specs.Steps.{Effect, moment, trace, stage, answer, audit, failed, line_of, client_of}
+use Rattle.port_history.specs.Steps.{Effect, Moment, moment, trace, stage, answer, audit, failed, line_of, client_of}
 use Rattle.port_history.specs.declared.error.PortError.{PortError}
 use Rattle.port_history.specs.declared.error.PortError.TheVariants.{HistoryFull}
 use Rattle.port_history.specs.declared.request.Answer.{Answer}
@@ -24,7 +24,7 @@ use Rattle.port_history.specs.declared.stages.Put.{Put}
 use Rattle.port_history.specs.declared.stages.Stage.{Stage}
 use Rattle.port_history.specs.declared.step.Step.{Step}
 use Rattle.port_history.specs.declared.step.Step.TheVariants as steps
-use Rattle.script_lines.specs.Texts.{Prints, done_text, denial_lines}
+use Rattle.script_lines.specs.Texts.{Prints, printed, last_of, done_text, denial_lines}
 use Rattle.script_lines.specs.declared.report.Report.{Report}
 use Rattle.port_scripts.specs.PortEffects.{PortHas, PortMakes, PortRunsOn, PrintsError, PrintsStep, made_by, refusal_in, refused_lines, step_lines, stepped, audit_lines, accepted_lines, taken_text}
 use Rattle.drive_scripts.proofs.Printed.{prints-then}

@@ -1,3 +1,4 @@
+use Rattle.std.proofs.Common.{sym, subst}
 use Rattle.port_scripts.specs.PortActs.{bare_steps}
 use Rattle.port_scripts.proofs.PortActs.{named-so}
 use Rattle.port_scripts.proofs.ahead.ahead_of.Goals as goal

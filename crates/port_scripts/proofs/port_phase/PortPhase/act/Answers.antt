@@ -1,4 +1,4 @@
-use Rattle.std.proofs.Common.{sym, ◌∙◌, subst}
+use Rattle.std.proofs.Common.{refl, sym, ◌∙◌, subst}
 use Rattle.port_scripts.specs.PortEffects.{PortDoes}
 use Rattle.port_scripts.proofs.PortTurns.{does-asked, does-unasked}
 use Rattle.port_scripts.proofs.port_phase.PortPhase.act.Goals as goal
