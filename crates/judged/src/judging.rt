@@ -371,24 +371,6 @@ fn judge_on(
     Ok((judging.rulings, bench.status()))
 }
 
-/// How the answers of a transcript stand to what the model prints with reasons, and where other bytes were written.
-fn judge_apart(
-    alloc: Global,
-    options: &Options,
-    freedoms: &Freedoms,
-    entries: &[Entry],
-) -> Result<(Rulings, u8), RunError>
-    ensures rulings { IfOk result (λ judged. judged.0
-        ≡ rulings_of options.now freedoms.now entries.now) }
-    ensures status { IfOk result (λ judged. judged.1
-        ≡ (run_outcome_of options.now (script_of entries.now)).status) }
-{
-    let mut bench = Bench::new(alloc);
-    let judged = judge_on(alloc, options, freedoms, &mut bench, entries);
-    drop(bench);
-    judged
-}
-
 /// How the answers of a transcript stand to the model's, and the status of its script. The script runs once where all agree.
 pub(crate) fn judge_all(
     alloc: Global,
@@ -407,5 +389,8 @@ pub(crate) fn judge_all(
     if let Some(judged) = agreed? {
         return Ok(judged);
     }
-    judge_apart(alloc, options, freedoms, entries)
+    let mut bench = Bench::new(alloc);
+    let judged = judge_on(alloc, options, freedoms, &mut bench, entries);
+    drop(bench);
+    judged
 }
