@@ -111,6 +111,16 @@ abbrev pub rulings_at : List Freedom → List ℕ → Entry → Printed → List
 rulings_at freedoms asked entry printed =
     if length entry.answers == 0 then [] else ruling_at freedoms asked entry printed ∷ []
 
+-- whether the answers to a line, if there are some, are what the model prints
+abbrev pub answers_agree : Entry → List ℕ → Bool
+answers_agree entry said = length entry.answers == 0
+    || are_same entry.answers (wanted_of entry.answers (script_lines said))
+
+-- then it is judged so
+abbrev pub agreement_of : Entry → List Ruling
+agreement_of entry = if length entry.answers == 0 then []
+    else record { number = entry.number; changes = can_change entry.line; verdict = Agrees } ∷ []
+
 -- the reasons of the last line that does not receive
 abbrev pub asked_behind : List ℕ → Entry → Printed → List ℕ
 asked_behind asked entry printed = if is_receiving entry.line then asked else own_reasons printed

@@ -1,13 +1,15 @@
 //! The answers of a transcript, judged one after the other.
 
-ghost use Rattle.std.specs.Prelude.{◌≡◌, ◌++◌, ◌∷◌, IfOk, OnOk};
+ghost use Rattle.std.specs.Prelude.{◌≡◌, ◌++◌, ◌∷◌, [], false, List, IfOk, IfSome, OnOk};
+ghost use Rattle.runs.specs.Stepped.{RanTo, RunStands};
+ghost use Rattle.judged.specs.declared.freedom.Freedom.{Freedom};
 ghost use Rattle.tool.specs.Outcomes.{run_outcome_of};
 ghost use Rattle.judged.specs.Benches.{BenchFits, BenchStands};
-ghost use Rattle.judged.specs.Judgements.{are_same, freedom_of, behind_commas, joined_answer, answer_behind_words, wrong_text, verdict_beside, answers_verdict, can_change, own_reasons, entry_verdict, nothing_judged, rulings_of};
+ghost use Rattle.judged.specs.Judgements.{are_same, freedom_of, behind_commas, joined_answer, answer_behind_words, wrong_text, verdict_beside, answers_verdict, can_change, answers_agree, agreement_of, own_reasons, entry_verdict, nothing_judged, rulings_of};
 ghost use Rattle.judged.specs.Transcripts.{script_of};
 
 use crate::answers::{behind, is_receiving, reasons_told, wanted_of};
-use crate::bench::{Bench, Printed};
+use crate::bench::{Bench, Printed, print_entry};
 use crate::blanks::{append_other_text, first_answer};
 use crate::entry::Entry;
 use crate::freedom::{Freedom, Freedoms, asks_level0};
@@ -15,6 +17,7 @@ use crate::ruling::{Ruling, Rulings, Verdict};
 use crate::text::Text;
 use basics::Bytes;
 use runs::explored::Lines;
+use runs::recorded::SteppedRun;
 use script_lines::Words;
 use std::alloc::{AllocError, Global};
 use tool::{Options, RunError};
@@ -243,7 +246,7 @@ impl Judging {
         ensures rulings { OnOk result (self.new.rulings ≡ self.old.rulings
             ++ rulings_at freedoms.now self.old.asked entry.now printed.now) }
     {
-        if entry.answers.len() == 0 {
+        if entry.answers.as_slice().is_empty() {
             return Ok(());
         }
         let asked = self.asked.as_slice();
@@ -293,6 +296,58 @@ impl Judging {
     }
 }
 
+/// Whether the answers to a line, if there are some, are what the model prints.
+fn answers_agree(alloc: Global, entry: &Entry, said: &[u8]) -> Result<bool, AllocError>
+    ensures { IfOk result (λ agree. agree ≡ answers_agree entry.now said.now) }
+{
+    if entry.answers.len() == 0 {
+        return Ok(true);
+    }
+    let heard = entry.answers.as_slice();
+    let said = Lines::of_script(alloc, said)?;
+    let wanted = wanted_of(alloc, heard, said.as_slice())?;
+    Ok(are_same(heard, wanted.as_slice()))
+}
+
+/// Judges the answers to a line that agree.
+fn add_agreement(rulings: &mut Rulings, entry: &Entry) -> Result<(), AllocError>
+    ensures { OnOk result (rulings.new ≡ rulings.old ++ agreement_of entry.now) }
+{
+    if entry.answers.len() == 0 {
+        return Ok(());
+    }
+    rulings.push(Ruling {
+        number: entry.number,
+        changes: can_change(entry.line.as_slice()),
+        verdict: Verdict::Agrees,
+    })
+}
+
+/// The same of a run of the script alone, on which no line has run, where all answers agree.
+fn agree_on(
+    alloc: Global,
+    options: &Options,
+    run: &mut SteppedRun,
+    entries: &[Entry],
+) -> Result<Option<(Rulings, u8)>, RunError>
+    requires stands { RunStands run.old }
+    requires ran { RanTo run.old false options.now [] }
+    ensures rulings { IfOk result (λ agreed. IfSome agreed (λ judged. (freedoms : List Freedom)
+        → judged.0 ≡ rulings_of options.now freedoms entries.now)) }
+    ensures status { IfOk result (λ agreed. IfSome agreed (λ judged. judged.1
+        ≡ (run_outcome_of options.now (script_of entries.now)).status)) }
+{
+    let mut rulings = Rulings::new(alloc);
+    for entry in entries {
+        let said = print_entry(alloc, options, run, entry)?;
+        if !answers_agree(alloc, entry, said.as_slice())? {
+            return Ok(None);
+        }
+        add_agreement(&mut rulings, entry)?;
+    }
+    Ok(Some((rulings, run.status())))
+}
+
 /// How the answers of a transcript stand to what these runs print, of which no line has run.
 fn judge_on(
     alloc: Global,
@@ -316,7 +371,7 @@ fn judge_on(
     Ok((judging.rulings, bench.status()))
 }
 
-/// How the answers of a transcript stand to the model's, and the status of its script.
+/// How the answers of a transcript stand to the model's, and the status of its script. The script runs once where all agree.
 pub(crate) fn judge_all(
     alloc: Global,
     options: &Options,
@@ -328,6 +383,12 @@ pub(crate) fn judge_all(
     ensures status { IfOk result (λ judged. judged.1
         ≡ (run_outcome_of options.now (script_of entries.now)).status) }
 {
+    let mut run = SteppedRun::new(alloc, false);
+    let agreed = agree_on(alloc, options, &mut run, entries);
+    drop(run);
+    if let Some(judged) = agreed? {
+        return Ok(judged);
+    }
     let mut bench = Bench::new(alloc);
     let judged = judge_on(alloc, options, freedoms, &mut bench, entries);
     drop(bench);
