@@ -502,10 +502,10 @@ def _within(number: int, most: int) -> int:
     return number
 
 
-def _bytes(data: Bytes) -> Tuple[Any, Any]:
+def _bytes(data: Bytes) -> Tuple[Any, int]:
     """Bytes for a call. They are copied where they can't be written and are no `bytes`, or do not stand side by side."""
     if isinstance(data, bytes):
-        return data, len(data) or _NONE
+        return data, len(data)
     view = memoryview(data)  # a number has no buffer, and is a TypeError
     if view.readonly or not view.c_contiguous:
         return view.tobytes(), view.nbytes
@@ -682,7 +682,7 @@ class _Object:
 # The bytes of data of an answer that a drive has a buffer for: 128 sectors. Those of more are asked for by a call more.
 _MOST = 65_536
 # What most calls have, as `ctypes` takes it with no work.
-_ROOM, _FIS_SIZE, _NONE = ctypes.c_size_t(_MOST), ctypes.c_size_t(FIS_LENGTH), ctypes.c_size_t(0)
+_ROOM, _FIS_SIZE = ctypes.c_size_t(_MOST), ctypes.c_size_t(FIS_LENGTH)
 
 
 class Drive(_Object):
