@@ -64,6 +64,31 @@ class OnADrive(unittest.TestCase):
         self.assertIsNone(self.drive.denied(7))
         self.assertEqual(self.drive.remedy(), "")
 
+    def test_each_failure_of_an_attempt_has_its_number(self):
+        self.assertEqual([int(it) for it in (Reason.WRONG_PIN, Reason.LOCKED_OUT, Reason.DISABLED, Reason.BLOCKED, Reason.UNKNOWN)],
+                         [7, 8, 9, 10, 11])
+        admin, user, admins = "0000000900010001", "0000000900030001", "0000000900000002"
+        # TryLimit of Admin1 is 5. Nothing but the send is a denial: behind the receive there is none.
+        send, receive = trusted_fis(True, SECURITY, COM_ID, 1), trusted_fis(False, SECURITY, COM_ID, 1)
+        wrong = frame(COM_ID, 0, 0, START.replace(b"OPALMSID", b"OPALMSIE")).ljust(SECTOR, b"\0")
+        told = []
+        for authority in [admin] * 6 + [user, admins]:
+            tokens = START.replace(bytes.fromhex(admin), bytes.fromhex(authority))
+            self.drive.accept(send, wrong if authority == admin else frame(COM_ID, 0, 0, tokens).ljust(SECTOR, b"\0"))
+            told.append(self.drive.denied().reason)
+            self.drive.accept(receive)
+            self.assertIsNone(self.drive.denied())
+        self.assertEqual(told, [Reason.WRONG_PIN] * 5 + [Reason.LOCKED_OUT, Reason.DISABLED, Reason.UNKNOWN])
+
+    def test_a_blocked_sid_has_its_number(self):
+        # Block SID Authentication (TCG Storage Feature Set: Block SID Authentication): security protocol 02h, ComID 0005h.
+        with Drive(profile="field") as drive:
+            self.assertEqual(drive.accept(trusted_fis(True, 2, 5, 1), bytes(SECTOR)).status, 0x50)
+            tokens = START.replace(bytes.fromhex("0000020500000002"), bytes.fromhex("0000020500000001"))
+            tokens = tokens.replace(bytes.fromhex("0000000900010001"), bytes.fromhex("0000000900000006"))
+            drive.accept(trusted_fis(True, SECURITY, COM_ID, 1), frame(COM_ID, 0, 0, tokens).ljust(SECTOR, b"\0"))
+            self.assertEqual(drive.denied(), Denied(2, 0, Reason.BLOCKED, sp="Admin", object=0x0000000900000006))
+
     def test_a_denied_call_is_told_in_numbers(self):
         send = trusted_fis(True, SECURITY, COM_ID, 1)
         self.drive.accept(send, frame(COM_ID, 0, 0, START.replace(b"OPALMSID", b"OPALMSIE")).ljust(SECTOR, b"\0"))
