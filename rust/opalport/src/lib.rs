@@ -685,35 +685,21 @@ impl Drive {
     /// [`Drive::accept`], with the data put into a buffer. Where they have no room there, the command is done, and the error is
     /// [`Error::Room`].
     pub fn accept_into(&mut self, fis: &[u8; FIS_LENGTH], payload: &[u8], into: &mut [u8]) -> Result<Told, Error> {
+        let (handle, bytes, length, room) = (&mut self.object.handle, payload.as_ptr(), payload.len(), into.len());
         // SAFETY: as in `accept`; nothing else borrows the buffer.
         let told = unsafe {
-            raw::opal_raw_drive_accept_into(
-                &mut self.object.handle,
-                fis.as_ptr(),
-                FIS_LENGTH,
-                payload.as_ptr(),
-                payload.len(),
-                into.as_mut_ptr(),
-                into.len(),
-            )
+            raw::opal_raw_drive_accept_into(handle, fis.as_ptr(), FIS_LENGTH, bytes, length, into.as_mut_ptr(), room)
         };
-        told_within(told, into.len())
+        told_within(told, room)
     }
 
     /// [`Drive::complete`], with the data put into a buffer, as [`Drive::accept_into`] does.
     pub fn complete_into(&mut self, tag: u8, payload: &[u8], into: &mut [u8]) -> Result<Told, Error> {
+        let (handle, bytes, length, room) = (&mut self.object.handle, payload.as_ptr(), payload.len(), into.len());
         // SAFETY: as in `accept_into`.
-        let told = unsafe {
-            raw::opal_raw_drive_complete_into(
-                &mut self.object.handle,
-                tag,
-                payload.as_ptr(),
-                payload.len(),
-                into.as_mut_ptr(),
-                into.len(),
-            )
-        };
-        told_within(told, into.len())
+        let told =
+            unsafe { raw::opal_raw_drive_complete_into(handle, tag, bytes, length, into.as_mut_ptr(), room) };
+        told_within(told, room)
     }
 
     /// What the drive is made with.
