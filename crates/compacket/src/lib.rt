@@ -11,7 +11,7 @@ mod writer;
 
 pub use error::FrameError;
 pub use headers::{COM_PACKET_HEADER, HEADERS, MAX_COM_PACKET, empty_header, short_header};
-pub use reader::{broken, open};
+pub use reader::{broken, laws_of_orders, open};
 pub use session::{ComId, Named, Opened, Session};
 pub use writer::{
     MAX_PAYLOAD, frame, frame_into, frame_len, headers_before, headers_room, laws_of_limits,

@@ -1,6 +1,7 @@
 //! Frames as they are read.
 
 ghost use Rattle.std.specs.Prelude.{◌≡◌, ◌+◌, ◌^◌, ◌<◌, ◌≤◌, IfOk, IsOkAnd, MatchResult, Ok, Err, Some, None, length, drop, slice_range};
+ghost use Rattle.compacket.specs.Orders.{FaultOrder};
 ghost use Rattle.compacket.specs.Frames.{Frame, IsComPacket, IsPacket, IsDataSubpacket, IsFrame, reading, fault_of, com_packet_fault, com_packet_content, packet_fault, packet_content, subpacket_fault, subpacket_content, com_id_of, session_of, big_endian_at, com_packet_header_size, packet_header_size, subpacket_header_size, headers_size, exceeds_packet, lacks_subpacket, broken_in};
 
 use crate::error::FrameError;
@@ -10,6 +11,11 @@ use crate::headers::{
 use crate::padding::padded;
 use crate::session::{ComId, Named, Opened, Session};
 use byteorder::{BigEndian, ByteOrder};
+
+/// The fault of bytes is that of the first of the checks that applies, in their order: none of those before it applies.
+pub fn laws_of_orders()
+    ensures { FaultOrder }
+{}
 
 fn length_at(bytes: &[u8], place: usize) -> usize
     requires { place + 4 ≤ length bytes.now }

@@ -40,6 +40,7 @@ impl From<AllocError> for DecodeError {
 
 /// The error of a call that reads: its kind decides.
 fn reading_error(error: io::Error) -> DecodeError
+    ensures either { (result ≡ DecodeError.Memory) ⊎ (result ≡ DecodeError.Read) }
     ensures memory { error_kind error ≡ OutOfMemory → result ≡ DecodeError.Memory }
     ensures read { (error_kind error ≡ OutOfMemory → ⊥) → result ≡ DecodeError.Read }
 {

@@ -1,16 +1,12 @@
 -- What is delivered where nothing is missed.
-use Rattle.std.proofs.Common.{◌≡◌, ℕ, ◌+◌, ◌-◌, Bool, true, false, zero, suc, List, [], ◌∷◌, ◌++◌, length, take, drop, Option, Some, None, refl, ap, sym, subst, arith, ◌∙◌, length-drop}
-use Rattle.std.specs.Prelude.{◌==◌, min, if◌then◌else◌}
+use Rattle.std.proofs.Common.{◌≡◌, ℕ, ◌+◌, Bool, true, false, zero, suc, List, ◌∷◌, ◌++◌, length, take, drop, Option, Some, None, refl, ap, sym, subst, arith, ◌∙◌}
+use Rattle.std.specs.Prelude.{◌==◌, if◌then◌else◌}
 use Rattle.std.proofs.lemmas.Grind.{common_steps}
-use Rattle.fis.specs.declared.any.Fis.{Fis}
-use Rattle.host_memory.specs.Access.{Access, Asked, Laid}
+use Rattle.host_memory.specs.Access.{Access, Laid}
 use Rattle.host_memory.specs.declared.hba_memory.miss.Miss.{Miss}
 use Rattle.host_memory.specs.declared.hba_memory.miss.Miss.TheVariants as misses
-use Rattle.host_memory.specs.declared.hba_memory.reading.Moved.{Moved}
-use Rattle.host_memory.specs.declared.hba_memory.delivery.Arrival.{Arrival}
-use Rattle.host_memory.specs.declared.hba_memory.delivery.Place.{Place}
-use Rattle.host_memory.specs.Memory.{data_at, data_len, written_by, runs_short, ending, descriptors_of, data_taken, TakesBlock, TakesEntry, TakesNext, Scatters, Counts, PostsTo, After, Then, EndsBy, Delivers}
-use Rattle.host_memory.specs.DeliveryLaws.{GivesAll, DeliveredLaw}
+use Rattle.host_memory.specs.Memory.{data_at, data_len, written_by, runs_short, ending, descriptors_of, data_taken, TakesBlock, TakesEntry, TakesNext, Scatters, Counts, PostsTo, After, Then, EndsBy}
+use Rattle.host_memory.specs.DeliveryLaws.{DeliveredLaw}
 
 clash : {A : Type 0} {x : A} → Some x ≡ None → ⊥
 clash e = cc

@@ -1,4 +1,5 @@
 pub mod Accesses
 pub mod Windows
 pub mod Deliveries
+pub mod Orders
 mod Rows

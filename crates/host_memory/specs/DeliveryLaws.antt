@@ -1,5 +1,5 @@
 -- What reaches the host's memory where nothing is missed (AHCI 1.3.1, 4.2 and 5.5).
-use Rattle.std.specs.Prelude.{◌≡◌, ℕ, ◌+◌, Bool, false, List, ◌++◌, length, None}
+use Rattle.std.specs.Prelude.{◌≡◌, ℕ, ◌+◌, false, List, ◌++◌, length, None}
 use Rattle.fis.specs.declared.any.Fis.{Fis}
 use Rattle.host_memory.specs.Access.{Access}
 use Rattle.host_memory.specs.declared.hba_memory.reading.Moved.{Moved}

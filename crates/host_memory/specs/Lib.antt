@@ -4,3 +4,4 @@ pub mod WindowLaws
 pub mod Memory
 pub mod HeaderLaws
 pub mod DeliveryLaws
+pub mod OrderLaws

@@ -2,6 +2,7 @@
 
 ghost use Rattle.host_memory.specs.DeliveryLaws.{DeliveredLaw};
 ghost use Rattle.host_memory.specs.HeaderLaws.{HeaderLaw};
+ghost use Rattle.host_memory.specs.OrderLaws.{GatherOrder, ScatterOrder};
 ghost use Rattle.host_memory.specs.WindowLaws.{WrittenLaw, ReadLaw};
 
 /// Laws of windows, over every list of accesses.
@@ -22,4 +23,11 @@ pub fn laws_of_headers()
 /// descriptors name, PRDBC counts them with those that it took, its FISes stand in their places, and nothing else is accessed.
 pub fn laws_of_deliveries()
     ensures { DeliveredLaw }
+{}
+
+/// The law of misses: of bytes that are brought (`gathered`) and of bytes that are laid (`scattered`), the first access that is
+/// refused is the last one, and is told by what it was for; too few bytes in the PRDT are told where none is refused.
+pub fn laws_of_orders()
+    ensures gathered { GatherOrder }
+    ensures scattered { ScatterOrder }
 {}

@@ -8,6 +8,6 @@ mod reach;
 mod window;
 
 pub use host::HostMemory;
-pub use laws::{laws_of_deliveries, laws_of_headers, laws_of_windows};
+pub use laws::{laws_of_deliveries, laws_of_headers, laws_of_orders, laws_of_windows};
 pub use reach::{read_array, read_at, write_at};
-pub use window::Window;
+pub use window::{Window, copy_from, copy_to};

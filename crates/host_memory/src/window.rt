@@ -23,7 +23,7 @@ fn is_held(base: u32, bytes: &[u8], at: u64, len: usize) -> bool
 }
 
 /// Fills with the bytes at an address, where they stand among these.
-fn fill(base: u32, bytes: &[u8], at: u64, into: &mut [u8]) -> bool
+pub fn copy_from(base: u32, bytes: &[u8], at: u64, into: &mut [u8]) -> bool
     requires { at + length into.old ≤ 0x100000000 }
     ensures { read_answer result into.new ≡ bytes_held_at base bytes.now at (length into.old) }
 {
@@ -36,7 +36,7 @@ fn fill(base: u32, bytes: &[u8], at: u64, into: &mut [u8]) -> bool
 }
 
 /// Writes bytes at an address, where they stand among these.
-fn put(base: u32, bytes: &mut [u8], at: u64, others: &[u8]) -> bool
+pub fn copy_to(base: u32, bytes: &mut [u8], at: u64, others: &[u8]) -> bool
     requires { at + length others.now ≤ 0x100000000 }
     ensures done { result ≡ is_held base bytes.old at (length others.now) }
     ensures bytes { bytes.new ≡ bytes_laid base bytes.old at others.now }
@@ -68,7 +68,7 @@ impl<'a> Window<'a> {
         ensures { read_answer result into.new
             ≡ bytes_held_at self.now.base self.now.bytes.now at (length into.old) }
     {
-        fill(self.base, self.bytes, at, into)
+        copy_from(self.base, self.bytes, at, into)
     }
 }
 
@@ -82,6 +82,6 @@ impl HostMemory for Window<'_> {
     }
 
     fn write(&mut self, at: u64, bytes: &[u8]) -> bool {
-        put(self.base, self.bytes, at, bytes)
+        copy_to(self.base, self.bytes, at, bytes)
     }
 }

@@ -12,3 +12,4 @@ pub mod ObjectLemmas
 pub mod GrantLaws
 pub mod ListLaws
 pub mod SetLaws
+pub mod OrderLaws

@@ -21,7 +21,7 @@ pub use calls::invoke;
 pub use changes::apply_set;
 pub use grants::denied;
 pub use kinds::{Kind, kind_of};
-pub use laws::{laws_of_cases, laws_of_grants, laws_of_lists, laws_of_sets};
+pub use laws::{laws_of_cases, laws_of_grants, laws_of_lists, laws_of_orders, laws_of_sets};
 pub use lists::list_columns;
 pub use outcome::{MethodFault, Outcome};
 pub use plain::{PlainGet, get_plainly, read_plain_get};

@@ -1,12 +1,11 @@
 //! Bytes of the host's memory of which some regions alone are memory.
 
-ghost use Rattle.std.specs.Prelude.{◌≡◌, ◌≤◌, ◌+◌, length};
+ghost use Rattle.std.specs.Prelude.{◌≡◌};
 ghost use Rattle.std.specs.List.{list_any};
-ghost use Rattle.host_memory.specs.Access.{read_answer};
-ghost use Rattle.host_memory.specs.Window.{is_held, bytes_held_at, bytes_laid};
 ghost use Rattle.library_calls.specs.Regions.{lies_in};
 
 use hba::HostMemory;
+use host_memory::{copy_from, copy_to};
 
 /// A region of the host's memory: the address of its first byte, and how many bytes it has.
 #[repr(C)]
@@ -29,42 +28,6 @@ fn lies_in_any(regions: &[Region], at: u64, len: usize) -> bool
     ensures { result ≡ list_any (lies_in at len) regions.now }
 {
     regions.iter().any(|region| lies_in(region, at, len))
-}
-
-/// Whether so many bytes at an address stand among these, from a base address on.
-fn is_held(base: u32, bytes: &[u8], at: u64, len: usize) -> bool
-    requires { at + len ≤ 0x100000000 }
-    ensures { result ≡ is_held base bytes.now at len }
-{
-    let end = u64::from(base) + bytes.len() as u64;
-    u64::from(base) <= at && at + len as u64 <= end
-}
-
-/// Fills with the bytes at an address, where they stand among these.
-fn copy_from(base: u32, bytes: &[u8], at: u64, into: &mut [u8]) -> bool
-    requires { at + length into.old ≤ 0x100000000 }
-    ensures { read_answer result into.new ≡ bytes_held_at base bytes.now at (length into.old) }
-{
-    if !is_held(base, bytes, at, into.len()) {
-        return false;
-    }
-    let place = (at - u64::from(base)) as usize;
-    into.copy_from_slice(&bytes[place..place + into.len()]);
-    true
-}
-
-/// Writes bytes at an address, where they stand among these.
-fn copy_to(base: u32, bytes: &mut [u8], at: u64, others: &[u8]) -> bool
-    requires { at + length others.now ≤ 0x100000000 }
-    ensures done { result ≡ is_held base bytes.old at (length others.now) }
-    ensures bytes { bytes.new ≡ bytes_laid base bytes.old at others.now }
-{
-    if !is_held(base, bytes, at, others.len()) {
-        return false;
-    }
-    let place = (at - u64::from(base)) as usize;
-    bytes[place..place + others.len()].copy_from_slice(others);
-    true
 }
 
 /// Bytes at a base address, of which those in these regions alone are memory. An access is answered where all its bytes lie in
