@@ -92,14 +92,17 @@ mode_bit is mode = if is then 2 ^ (8 + mode % 16) else 0
 abbrev pub bit_if : Bool → ℕ → ℕ
 bit_if is bit = if is then bit else 0
 
--- Word 63: multiword DMA modes 0 to 2, and which of them is chosen; 88: Ultra DMA modes 0 to 6, and which of them is. 85: the
--- write cache (bit 5) and read look-ahead (bit 6) are enabled.
+-- The write cache (bit 5) and read look-ahead (bit 6) are enabled.
+abbrev pub chosen_bits : Settings → ℕ
+chosen_bits settings = bit_if settings.write_cache 0x20 + bit_if settings.read_look_ahead 0x40
+
+-- Word 63: multiword DMA modes 0 to 2, and which of them is chosen; 88: Ultra DMA modes 0 to 6, and which of them is. 85: what is
+-- enabled.
 abbrev pub settings_word : Settings → ℕ → ℕ
 settings_word settings word =
     if word == 63
     then 0x0007 + mode_bit (is_multiword settings.transfer_mode) settings.transfer_mode
-    else (if word == 85
-    then bit_if settings.write_cache 0x20 + bit_if settings.read_look_ahead 0x40
+    else (if word == 85 then chosen_bits settings
     else 0x007f + mode_bit (is_ultra settings.transfer_mode) settings.transfer_mode)
 
 abbrev pub is_of_settings : ℕ → Bool
@@ -120,11 +123,11 @@ field_identity config settings =
 -- bit 15 says that words 119 and 120 are told, and so does bit 14 of each; they have no further bit. 217: a medium that does
 -- not rotate. 222: a serial transport (bits 15:12 are 1h), by SATA 1.0a to SATA 3.0 (bits 1 to 5), since word 76 has the speed
 -- that came with SATA 3.0. 69: trimmed sectors read the same each time (bit 14), zeros (bit 5). 105: how many blocks of entries a
--- DATA SET MANAGEMENT brings at most, and 169: it has TRIM. All other words are the field profile's: in 82 and 85 Power Management
--- (bit 3) is clear, since STANDBY and SLEEP are not there; and in 84 and 87 so is WRITE DMA FUA EXT with WRITE MULTIPLE FUA EXT
--- (bit 6), since the second is not there.
-abbrev pub opal_word : Config → Settings → ℕ → ℕ
-opal_word config settings word =
+-- DATA SET MANAGEMENT brings at most, and 169: it has TRIM. 82 and 85 have the Power Management feature set (bit 3) beside what
+-- the field profile tells there, and 84 and 87 WRITE DMA FUA EXT with WRITE MULTIPLE FUA EXT (bit 6). All other words are the field
+-- profile's.
+abbrev pub own_word : Config → Settings → ℕ → ℕ
+own_word config settings word =
     if word == 47 then 0x8000 + sectors_in_block
     else (if word == 59 then 0x0100 + sectors_in_block
     else (if word == 69 then 0x4020
@@ -134,6 +137,18 @@ opal_word config settings word =
     else (if word == 169 then 0x0001
     else (if word == 217 then 0x0001
     else (if word == 222 then 0x103e else field_word config settings word))))))))
+
+abbrev pub is_of_features : ℕ → Bool
+is_of_features word = word == 82 || word == 84 || word == 85 || word == 87
+
+abbrev pub features_word : Settings → ℕ → ℕ
+features_word settings word =
+    if word == 82 then 0x0068
+    else (if word == 85 then chosen_bits settings + 0x0008 else 0x4060)
+
+abbrev pub opal_word : Config → Settings → ℕ → ℕ
+opal_word config settings word =
+    if is_of_features word then features_word settings word else own_word config settings word
 
 -- Words 0 to 254.
 abbrev pub opal_words : Config → Settings → List ℕ

@@ -4,7 +4,7 @@ ghost use Rattle.std.specs.Prelude.{◌≡◌, ◌≤◌, ◌<◌, ◌%◌, IfOk
 ghost use Rattle.basics.specs.Sums.{byte_sum};
 ghost use Rattle.basics.specs.declared.profile.Profile.TheVariants.{Opal};
 ghost use Rattle.sp_cells.specs.Config.{Config};
-ghost use Rattle.device_data.specs.Identity.{sectors_word, identify_word, identity, text_word, is_between, firmware, has_text, name_word, short_capacity, driver_word, mode_bit, settings_word, is_of_settings, field_word, field_identity, opal_word, opal_words, has_checksum, opal_identity, identity_in, identity_of};
+ghost use Rattle.device_data.specs.Identity.{sectors_word, identify_word, identity, text_word, is_between, firmware, has_text, name_word, short_capacity, driver_word, mode_bit, chosen_bits, settings_word, is_of_settings, field_word, field_identity, is_of_features, features_word, own_word, opal_word, opal_words, has_checksum, opal_identity, identity_in, identity_of};
 ghost use Rattle.device_data.specs.declared.settings.Settings.{Settings};
 
 use crate::settings::Settings;
@@ -134,6 +134,16 @@ fn mode_bit(is: bool, mode: u8) -> u16
     if is { 1 << (8 + mode % 16) } else { 0 }
 }
 
+/// Whether the write cache and read look-ahead are enabled, in bits 5 and 6.
+fn chosen_bits(settings: &Settings) -> u16
+    ensures value { result ≡ chosen_bits settings.now }
+    ensures small { result ≤ 0x60 }
+{
+    let cache = if settings.write_cache { 0x20 } else { 0 };
+    let look_ahead = if settings.read_look_ahead { 0x40 } else { 0 };
+    cache + look_ahead
+}
+
 /// A word that tells what a host has chosen.
 fn settings_word(settings: &Settings, word: u16) -> u16
     requires { is_of_settings word ≡ true }
@@ -142,11 +152,7 @@ fn settings_word(settings: &Settings, word: u16) -> u16
     let mode = settings.transfer_mode;
     match word {
         63 => 0x0007 + mode_bit(is_multiword(mode), mode),
-        85 => {
-            let cache = if settings.write_cache { 0x20 } else { 0 };
-            let look_ahead = if settings.read_look_ahead { 0x40 } else { 0 };
-            cache + look_ahead
-        }
+        85 => chosen_bits(settings),
         _ => 0x007f + mode_bit(is_ultra(mode), mode),
     }
 }
@@ -185,9 +191,27 @@ const SECTORS_IN_BLOCK: u16 = 1;
 /// What says that the last word has a checksum.
 const HAS_CHECKSUM: u8 = 0xa5;
 
-/// A word of the answer under `Opal`, other than the last.
-fn opal_word(config: &DriveConfig, settings: &Settings, word: u16) -> u16
-    ensures { result ≡ opal_word config.now settings.now word }
+/// Whether a word tells which commands and features there are, or which of them are enabled.
+fn is_of_features(word: u16) -> bool
+    ensures { result ≡ is_of_features word }
+{
+    word == 82 || word == 84 || word == 85 || word == 87
+}
+
+/// A word that tells which commands and features there are, or which of them are enabled, under `Opal`.
+fn features_word(settings: &Settings, word: u16) -> u16
+    ensures { result ≡ features_word settings.now word }
+{
+    match word {
+        82 => 0x0068,
+        85 => chosen_bits(settings) + 0x0008,
+        _ => 0x4060,
+    }
+}
+
+/// A word of the answer under `Opal`, other than these and the last.
+fn own_word(config: &DriveConfig, settings: &Settings, word: u16) -> u16
+    ensures { result ≡ own_word config.now settings.now word }
 {
     match word {
         47 => 0x8000 + SECTORS_IN_BLOCK,
@@ -199,6 +223,17 @@ fn opal_word(config: &DriveConfig, settings: &Settings, word: u16) -> u16
         169 | 217 => 0x0001,
         222 => 0x103e,
         _ => field_word(config, settings, word),
+    }
+}
+
+/// A word of the answer under `Opal`, other than the last.
+fn opal_word(config: &DriveConfig, settings: &Settings, word: u16) -> u16
+    ensures { result ≡ opal_word config.now settings.now word }
+{
+    if is_of_features(word) {
+        features_word(settings, word)
+    } else {
+        own_word(config, settings, word)
     }
 }
 
@@ -247,7 +282,7 @@ pub fn laws_of_identity()
 /// The 512 bytes that a drive answers to IDENTIFY DEVICE by its configuration and by what a host has chosen. Under `Base`
 /// they are those of `identity`. Under `Field` they also have the names of the drive, the sectors that an address of 28 bits
 /// reaches, and the words by which a driver finds how to talk to it. Under `Opal` they tell besides how many sectors a block
-/// by PIO has, what the medium and the transport are, and a checksum.
+/// by PIO has, that there are power modes, what the medium and the transport are, and a checksum.
 pub fn identity_of(
     alloc: Global,
     config: &DriveConfig,

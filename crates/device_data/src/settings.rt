@@ -1,11 +1,12 @@
-//! What a host has chosen of a drive's interface (ACS-3, "SET FEATURES").
+//! What a host has chosen of a drive's interface (ACS-3, "SET FEATURES", and the Power Management feature set).
 
 ghost use Rattle.std.specs.Prelude.{◌≡◌, ◌==◌, ◌||◌, ◌&&◌, if◌then◌else◌};
-ghost use Rattle.device_data.specs.Settings.{first_mode, first_settings, with_feature, settings_at_reset};
+ghost use Rattle.device_data.specs.Settings.{first_mode, first_settings, with_feature, settings_at_reset, with_standby, active};
 
 use trusted_cmds::Feature;
 
-/// What a host has chosen of a drive's interface. IDENTIFY DEVICE tells it, in words 63, 85 and 88.
+/// What a host has chosen of a drive's interface. IDENTIFY DEVICE tells it, in words 63, 85 and 88, and CHECK POWER MODE
+/// whether the drive is in standby.
 #[derive(Clone, Copy, Debug, PartialEq, Eq)]
 pub struct Settings {
     /// Whether the volatile write cache is enabled.
@@ -14,6 +15,8 @@ pub struct Settings {
     pub read_look_ahead: bool,
     /// The transfer mode, by its number in SET FEATURES.
     pub transfer_mode: u8,
+    /// Whether the drive is in standby.
+    pub in_standby: bool,
 }
 
 /// The transfer mode with which a drive begins: Ultra DMA mode 6.
@@ -34,6 +37,7 @@ impl Settings {
             write_cache: true,
             read_look_ahead: true,
             transfer_mode: FIRST_MODE,
+            in_standby: false,
         }
     }
 
@@ -46,6 +50,20 @@ impl Settings {
         } else {
             self
         }
+    }
+
+    /// In standby, or out of it.
+    pub fn with_standby(self, in_standby: bool) -> Settings
+        ensures { result ≡ with_standby in_standby self }
+    {
+        Settings { in_standby, ..self }
+    }
+
+    /// What stands once sectors were read or written: the drive is active.
+    pub fn active(self) -> Settings
+        ensures { result ≡ active self }
+    {
+        self.with_standby(false)
     }
 
     /// With a feature as the host chooses it.

@@ -20,6 +20,7 @@ use Rattle.compacket.specs.declared.session.Named.{Named}
 use Rattle.device_data.specs.Discovery.{discovery_of}
 use Rattle.device_data.specs.StackReset.{is_stack_reset, stack_answer}
 use Rattle.device_data.specs.ErrorLog.{sized}
+use Rattle.device_data.specs.Settings.{active}
 use Rattle.device_data.specs.declared.log_page.Failure.{Failure}
 use Rattle.locking.specs.declared.range.Op.{Op}
 use Rattle.locking.specs.declared.range.Op.TheVariants.{Read, Write}
@@ -29,6 +30,7 @@ use Rattle.shadow_mbr.specs.Stored.{StoredSectors, sector_size, sector_at, zeros
 use Rattle.transactions.specs.Sights.{look_up, committed_sight}
 use Rattle.trusted_cmds.specs.declared.command.Command.{Command}
 use Rattle.trusted_cmds.specs.declared.command.Command.TheVariants.{ReadQueued, WriteQueued, ReadDma, WriteDma, Send, Receive, Identify, ReadLog10, Flush, SetFeatures, ReadLog, ReadPio, WritePio, Verify, Trim, Control}
+use Rattle.trusted_cmds.specs.declared.control.Control.TheVariants.{SetMultiple, Idle, Standby, CheckPowerMode, Diagnose}
 use Rattle.trusted_cmds.specs.Commands.{is_programmatic_reset, is_protocol_list, is_certificate_data, reset_protocol}
 use Rattle.trusted_cmds.specs.BlockSid.{is_block_sid, block_asked}
 use Rattle.trusted_cmds.specs.declared.block.SidBlock.{SidBlock}
@@ -360,7 +362,11 @@ executed-succeeds f payload (ReadPio lba count) can = absurd can
 executed-succeeds f payload (WritePio lba count) can = absurd can
 executed-succeeds f payload (Verify lba count) can = absurd can
 executed-succeeds f payload (Trim blocks) can = (refl, refl)
-executed-succeeds f payload (Control control) can = (refl, refl)
+executed-succeeds f payload (Control SetMultiple) can = (refl, refl)
+executed-succeeds f payload (Control Idle) can = (refl, refl)
+executed-succeeds f payload (Control Standby) can = (refl, refl)
+executed-succeeds f payload (Control CheckPowerMode) can = (refl, refl)
+executed-succeeds f payload (Control Diagnose) can = (refl, refl)
 
 -- the fields of an answer
 
@@ -380,7 +386,7 @@ failed-answer f h error deed denied rule a free t =
     record { status = t.status_is; error = t.error_is; held = t.held_is ∙ sym free; fises = t.fises_are; bytes = t.bytes_are; denied = t.denied_is; rule = t.rule_is }
 
 pub served-answer : (f : Facts) (h : RegH2d) (ev : Event) (a : Accepted) (command : Command) → Succeeds ev → command_read f.config h ≡ Ok (command, None)
-    → IsTold a ready 0 false (served_fises command) (data_of f command) ev.denied ev.rule → IsAnswer f h ev a
+    → IsTold a ready 0 false (served_fises f.settings command) (data_of f command) ev.denied ev.rule → IsAnswer f h ev a
 served-answer f h ev a command s reads t = record {
   status = t.status_is ∙ rw s.0 refl;
   error = t.error_is ∙ rw s.0 refl;
@@ -426,7 +432,7 @@ holds-done f h d e o past payload tag its made a small is to reads t k =
 
 pub executes-done : (f : Facts) (h : RegH2d) (e : DriveState) (o : Origin) (past : List Event) (payload : List ℕ) (command : Command) (made : Decision) (a : Accepted)
     → made ≡ Executes command → (command_read f.config h ≡ Ok (command, None)) × CanExecute command
-    → IsTold a ready 0 false (served_fises command) (data_of f command) (executed f payload command).denied (executed f payload command).rule
+    → IsTold a ready 0 false (served_fises f.settings command) (data_of f command) (executed f payload command).denied (executed f payload command).rule
     → KeepsDrive e o (executed f payload command ∷ past) → IsDoneAndAnswered f h (decision_event f payload made) e o past a
 executes-done f h e o past payload command made a is due t k =
     subst (λ (x : Decision). IsDoneAndAnswered f h (decision_event f payload x) e o past a) (sym is)
@@ -434,7 +440,7 @@ executes-done f h e o past payload command made a is due t k =
 
 pub asks-done : (f : Facts) (h : RegH2d) (e : DriveState) (o : Origin) (past : List Event) (payload : List ℕ) (command : Command) (a : Accepted)
     → command_read f.config h ≡ Ok (command, None)
-    → IsTold a ready 0 false (served_fises command) (data_of f command) (asked_of_stack f payload command).denied (asked_of_stack f payload command).rule
+    → IsTold a ready 0 false (served_fises f.settings command) (data_of f command) (asked_of_stack f payload command).denied (asked_of_stack f payload command).rule
     → KeepsDrive e o (asked_of_stack f payload command ∷ past) → IsDoneAndAnswered f h (asked_of_stack f payload command) e o past a
 asks-done f h e o past payload command a reads t k = (k, served-answer f h (asked_of_stack f payload command) a command (asked-succeeds f payload command) reads t)
 
@@ -459,10 +465,10 @@ reset-no-data f (Control control) is = absurd cc
 
 pub restarts-done : (f : Facts) (h : RegH2d) (e : DriveState) (o : Origin) (past : List Event) (payload : List ℕ) (command : Command) (made : Decision) (a : Accepted)
     → made ≡ Restarts command → (command_read f.config h ≡ Ok (command, None)) × (is_programmatic_reset command ≡ true)
-    → IsTold a ready 0 false (served_fises command) [] None None
+    → IsTold a ready 0 false (served_fises f.settings command) [] None None
     → KeepsDrive e o (did (WasReset programmatic) ∷ past) → IsDoneAndAnswered f h (decision_event f payload made) e o past a
 restarts-done f h e o past payload command made a is due t k =
-    let told : IsTold a ready 0 false (served_fises command) (data_of f command) None None =
+    let told : IsTold a ready 0 false (served_fises f.settings command) (data_of f command) None None =
     record { status_is = t.status_is; error_is = t.error_is; held_is = t.held_is; fises_are = t.fises_are; bytes_are = t.bytes_are ∙ reset-no-data f command due.1; denied_is = t.denied_is; rule_is = t.rule_is } in
     subst (λ (x : Decision). IsDoneAndAnswered f h (decision_event f payload x) e o past a) (sym is)
     (k, served-answer f h (did (WasReset programmatic)) a command (refl, refl) due.0 told)
@@ -488,10 +494,10 @@ block-no-data f profile (Control control) is = absurd cc
 
 pub blocks-done : (f : Facts) (h : RegH2d) (e : DriveState) (o : Origin) (past : List Event) (payload : List ℕ) (profile : Profile) (command : Command) (made : Decision) (a : Accepted)
     → made ≡ Blocks command → (command_read f.config h ≡ Ok (command, None)) × (is_block_sid profile command ≡ true)
-    → IsTold a ready 0 false (served_fises command) [] None None
+    → IsTold a ready 0 false (served_fises f.settings command) [] None None
     → KeepsDrive e o (did (BlockedSid (block_asked payload)) ∷ past) → IsDoneAndAnswered f h (decision_event f payload made) e o past a
 blocks-done f h e o past payload profile command made a is due t k =
-    let told : IsTold a ready 0 false (served_fises command) (data_of f command) None None =
+    let told : IsTold a ready 0 false (served_fises f.settings command) (data_of f command) None None =
     record { status_is = t.status_is; error_is = t.error_is; held_is = t.held_is; fises_are = t.fises_are; bytes_are = t.bytes_are ∙ block-no-data f profile command due.1; denied_is = t.denied_is; rule_is = t.rule_is } in
     subst (λ (x : Decision). IsDoneAndAnswered f h (decision_event f payload x) e o past a) (sym is)
     (k, served-answer f h (did (BlockedSid (block_asked payload))) a command (refl, refl) due.0 told)
@@ -519,9 +525,9 @@ moves-succeeds Read lba count payload = (refl, refl)
 moves-succeeds Write lba count payload = (refl, refl)
 
 pub moves-done : (h : RegH2d) (d e : DriveState) (o : Origin) (past : List Event) (payload : List ℕ) (its : Held) (way : Way) (made : Decision) (a : Accepted)
-    → made ≡ Moves its way → IsMoved d h its way → e.tper ≡ d.tper → e.queue ≡ d.queue → e.settings ≡ d.settings
+    → made ≡ Moves its way → IsMoved d h its way → e.tper ≡ d.tper → e.queue ≡ d.queue → e.settings ≡ active d.settings
     → ((s : ℕ) → sector_at e.media s ≡ sector_then its.transfer payload (sector_at d.media s) s)
-    → IsTold a ready 0 false (served_fises (unqueued_command way its.transfer)) (moved_bytes (kept_facts d (facts o past)) way its) None None
+    → IsTold a ready 0 false (served_fises (facts o past).settings (unqueued_command way its.transfer)) (moved_bytes (kept_facts d (facts o past)) way its) None None
     → KeepsDrive d o past → IsDoneAndAnswered (facts o past) h (decision_event (facts o past) payload made) e o past a
 moves-done h d e o past payload its way made a is due tper queue chosen media t k =
     let op : Op = its.transfer.op in
@@ -529,7 +535,7 @@ moves-done h d e o past payload its way made a is due tper queue chosen media t 
     let count : ℕ = its.transfer.count in
     let same : moved_bytes (kept_facts d (facts o past)) way its ≡ data_of (facts o past) (unqueued_command way its.transfer) =
     moved-data d (facts o past) way op lba count its.is_shadowed due.verdict ∙ ap (λ (f : Facts). data_of f (unqueued_command way its.transfer)) (seen-is d o past k) in
-    let told : IsTold a ready 0 false (served_fises (unqueued_command way its.transfer)) (data_of (facts o past) (unqueued_command way its.transfer)) None None =
+    let told : IsTold a ready 0 false (served_fises (facts o past).settings (unqueued_command way its.transfer)) (data_of (facts o past) (unqueued_command way its.transfer)) None None =
     record { status_is = t.status_is; error_is = t.error_is; held_is = t.held_is; fises_are = t.fises_are; bytes_are = t.bytes_are ∙ same; denied_is = t.denied_is; rule_is = t.rule_is } in
     subst (λ (x : Decision). IsDoneAndAnswered (facts o past) h (decision_event (facts o past) payload x) e o past a) (sym is) (
       moved-keeps d e o past op lba count payload (did (transfer_deed its.transfer payload)) refl tper queue chosen media k,

@@ -2,6 +2,7 @@
 use Rattle.std.proofs.Common.{◌≡◌, ℕ, ◌<◌, Bool, List, [], ◌∷◌, ◌++◌, reverse, Option, Some, None, Result, Ok, Err, IfOk, refl, sym, subst, ap, ◌∙◌, option_map}
 use Rattle.std.specs.Prelude.{OnOk}
 use Rattle.shadow_mbr.specs.Stored.{heads, heads_of, sector_at}
+use Rattle.device_data.specs.Settings.{active}
 use Rattle.locking.specs.declared.range.Op.{Op}
 use Rattle.locking.specs.declared.range.Op.TheVariants.{Read, Write}
 use Rattle.history.specs.Opening.{Origin}
@@ -58,14 +59,14 @@ heads-of-write v f held is none =
 -- the transfer moves, and then its slot is free
 pub finished-some : (gives : List ℕ → List ℕ) (tag : ℕ) (payload : List ℕ) (x : Option Held) (its : Held) (old mid new : DriveState) (done : Completed) → x ≡ Some its
     → mid.tper ≡ old.tper → mid.queue ≡ old.queue → mid.settings ≡ old.settings → ((s : ℕ) → sector_at mid.media s ≡ sector_then its.transfer payload (sector_at old.media s) s)
-    → new ≡ record mid { queue = with_slot tag None mid.queue }
+    → new ≡ record mid { queue = with_slot tag None mid.queue; settings = active mid.settings }
     → fises_done done ≡ fises_of tag (queued_command its.transfer) → ((f : Facts) → done.bytes.items ≡ gives (held_bytes (kept_facts old f) its))
     → IsFinished gives tag payload x old new done
 finished-some gives tag payload x its old mid new done is tper queue chosen media freed fises bytes =
     subst (λ (x : Option Held). IsFinished gives tag payload x old new done) (sym is) (record {
       tper = ap (λ (d : DriveState). d.tper) freed ∙ tper;
       queue = ap (λ (d : DriveState). d.queue) freed ∙ ap (with_slot tag None) queue;
-      settings = ap (λ (d : DriveState). d.settings) freed ∙ chosen;
+      settings = ap (λ (d : DriveState). d.settings) freed ∙ ap active chosen;
       media = λ s. ap (λ (d : DriveState). sector_at d.media s) freed ∙ media s;
       fises = fises;
       bytes = bytes;

@@ -7,7 +7,9 @@ use Rattle.locking.specs.declared.range.Op.{Op}
 use Rattle.locking.specs.declared.range.Op.TheVariants.{Read, Write}
 use Rattle.device_data.specs.declared.log_page.Failure.{Failure}
 use Rattle.device_data.specs.declared.settings.Settings.{Settings}
-use Rattle.device_data.specs.Settings.{with_feature}
+use Rattle.device_data.specs.Settings.{with_feature, with_standby, active}
+use Rattle.trusted_cmds.specs.declared.control.Control.{Control}
+use Rattle.trusted_cmds.specs.declared.control.Control.TheVariants.{SetMultiple, Idle, Standby, CheckPowerMode, Diagnose}
 use Rattle.trusted_cmds.specs.declared.feature.Feature.{Feature}
 use Rattle.trusted_cmds.specs.declared.trim.Extent.{Extent}
 use Rattle.shadow_mbr.specs.Stored.{sector_at, zeros}
@@ -20,10 +22,10 @@ use Rattle.locking.specs.declared.ranges.Verdict.{Verdict}
 use Rattle.tcg_tokens.specs.Reading.{reading as message_in}
 use Rattle.shadow_mbr.specs.Erasure.{is_erased}
 use Rattle.sessions.specs.Deeds.{Begun, erased_by}
-use Rattle.history.specs.Decisions.{completed}
+use Rattle.history.specs.Decisions.{completed, control_deed}
 use Rattle.history.specs.Tcg.{sent, sent_by, broken_of, unframed, unframed_in, framed, to_session, to_manager, in_session, item_in, breaks_off, broken_off, is_discarded, manager_event, answers, is_manager}
 use Rattle.history.specs.Opening.{Origin}
-use Rattle.history.specs.Events.{HeldCommand, Held as HeldDeed, QueueFailed, QueueMended, QueueEnded, Deed, Nothing, OfQueue, Wrote, Trimmed, Took, BlockedSid, Chose, WasReset, InSession, Event, did, or_else, latest, ignores}
+use Rattle.history.specs.Events.{HeldCommand, Held as HeldDeed, QueueFailed, QueueMended, QueueEnded, Deed, Nothing, OfQueue, Wrote, Trimmed, Took, BlockedSid, Chose, PowerSet, WasReset, InSession, Event, did, or_else, latest, ignores}
 use Rattle.history.specs.Readers.{holding, in_force, failing, failure, trimming, writing, settings_then}
 use Rattle.history.specs.Facts.{Facts, facts, session_named}
 use Rattle.history.specs.KeptStore.{ReadsStore}
@@ -34,6 +36,7 @@ use Rattle.drive.specs.declared.queue.Queue.{Queue}
 use Rattle.drive.specs.declared.transfer.Held.{Held}
 use Rattle.drive.specs.Transfer.{transfer_by, queued_command, held_command, sector_then}
 use Rattle.drive.specs.Decision.{transfer_deed}
+use Rattle.drive.specs.Power.{power_after}
 use Rattle.drive.specs.Queue.{slot_at, held_at, with_slot, failed_queue, mended_queue, empty_queue}
 use Rattle.drive.specs.State.{DriveState, kept_facts, KeepsDrive}
 use Rattle.drive.proofs.Slots.{no_slot, none_length, slot_set}
@@ -136,7 +139,7 @@ written-here false x y = refl
 
 -- an unqueued transfer
 pub moved-keeps : (d e : DriveState) (o : Origin) (past : List Event) (op : Op) (lba count : ℕ) (payload : List ℕ) (ev : Event)
-    → ev.deed ≡ transfer_deed (transfer_by op lba count) payload → e.tper ≡ d.tper → e.queue ≡ d.queue → e.settings ≡ d.settings
+    → ev.deed ≡ transfer_deed (transfer_by op lba count) payload → e.tper ≡ d.tper → e.queue ≡ d.queue → e.settings ≡ active d.settings
     → ((s : ℕ) → sector_at e.media s ≡ sector_then (transfer_by op lba count) payload (sector_at d.media s) s)
     → KeepsDrive d o past → KeepsDrive e o (ev ∷ past)
 moved-keeps d e o past Read lba count payload ev h tper queue chosen media k =
@@ -159,7 +162,7 @@ moved-keeps d e o past Write lba count payload ev h tper queue chosen media k =
 -- a completion
 pub completed-keeps : (d e : DriveState) (o : Origin) (past : List Event) (tag : ℕ) (op : Op) (lba count : ℕ) (payload : List ℕ) (v : Verdict) (ev : Event)
     → tag < 32 → ev ≡ completed tag payload (Some (record { command = queued_command (transfer_by op lba count); verdict = v }))
-    → e.tper ≡ d.tper → e.queue ≡ with_slot tag None d.queue → e.settings ≡ d.settings
+    → e.tper ≡ d.tper → e.queue ≡ with_slot tag None d.queue → e.settings ≡ active d.settings
     → ((s : ℕ) → sector_at e.media s ≡ sector_then (transfer_by op lba count) payload (sector_at d.media s) s)
     → KeepsDrive d o past → KeepsDrive e o (ev ∷ past)
 completed-keeps d e o past tag Read lba count payload v ev small h tper queue chosen media k =
@@ -212,12 +215,13 @@ erase-here true before = refl
 erase-here false before = refl
 
 -- sectors are trimmed
-pub trims-keeps : (d e : DriveState) (o : Origin) (past : List Event) (extents : List Extent) → e.tper ≡ d.tper → e.queue ≡ d.queue → e.settings ≡ d.settings
-    → ((s : ℕ) → sector_at e.media s ≡ unwrap_or (trimming s extents) (sector_at d.media s))
+pub trims-keeps : (d e : DriveState) (o : Origin) (past : List Event) (extents : List Extent) → e.tper ≡ d.tper → e.queue ≡ d.queue
+    → e.settings ≡ active d.settings → ((s : ℕ) → sector_at e.media s ≡ unwrap_or (trimming s extents) (sector_at d.media s))
     → KeepsDrive d o past → KeepsDrive e o (did (Trimmed extents) ∷ past)
 trims-keeps d e o past extents tper queue chosen media k =
-    tper-keeps d e o past (did (Trimmed extents)) (of_tper (λ tag. refl) refl (λ s. refl))
-    (spared d e o past (did (Trimmed extents)) tper refl k) queue chosen media k
+    keeps-more d e o past (did (Trimmed extents)) (spared d e o past (did (Trimmed extents)) tper refl k)
+    (ap (λ (q : Queue). length q.slots) queue ∙ k.slots)
+    (λ t. ap (λ (q : Queue). held_at q t) queue) (ap (λ (q : Queue). q.failure) queue) media chosen k
 
 -- what is sent does nothing, or something in a session
 abbrev pub IsSendDeed : Deed → Type 0
@@ -234,6 +238,7 @@ sends-of-tper (Trimmed extents) h = absurd h
 sends-of-tper (Took com_id) h = absurd h
 sends-of-tper (BlockedSid block) h = absurd h
 sends-of-tper (Chose feature) h = absurd h
+sends-of-tper (PowerSet in_standby) h = absurd h
 sends-of-tper (WasReset kind) h = absurd h
 
 pub sends-erase : (d : Deed) (s : ℕ) (before : List ℕ) → IsSendDeed d → (if is_erased (erased_by_deed d) s then zeros else before) ≡ unwrap_or (writing s d) before
@@ -245,6 +250,7 @@ sends-erase (Trimmed extents) s before h = absurd h
 sends-erase (Took com_id) s before h = absurd h
 sends-erase (BlockedSid block) s before h = absurd h
 sends-erase (Chose feature) s before h = absurd h
+sends-erase (PowerSet in_standby) s before h = absurd h
 sends-erase (WasReset kind) s before h = absurd h
 
 broken-deed : (f : Facts) (com_id : ℕ) (named : Session) (session : Begun) (item : Result Message TokenError) (b : Bool) → IsSendDeed (if b then broken_off BrokenOff session.sp else answers com_id named (in_session f session item)).deed
@@ -293,6 +299,26 @@ pub chosen-keeps : (d e : DriveState) (o : Origin) (past : List Event) (feature 
 chosen-keeps d e o past feature is k = subst (λ (x : DriveState). KeepsDrive x o (did (Chose feature) ∷ past)) (sym is) (
     keeps-more d (record d { settings = with_feature feature d.settings }) o past (did (Chose feature)) (spared d d o past (did (Chose feature)) refl refl k) k.slots
     (λ tag. refl) refl (λ s. refl) refl k)
+
+-- the power mode is set
+pub power-keeps : (d : DriveState) (o : Origin) (past : List Event) (in_standby : Bool)
+    → KeepsDrive d o past → KeepsDrive (record d { settings = with_standby in_standby d.settings }) o (did (PowerSet in_standby) ∷ past)
+power-keeps d o past in_standby k =
+    keeps-more d (record d { settings = with_standby in_standby d.settings }) o past (did (PowerSet in_standby)) (spared d d o past (did (PowerSet in_standby)) refl refl k) k.slots
+    (λ tag. refl) refl (λ s. refl) refl k
+
+power_after-by : (d : DriveState) (o : Origin) (past : List Event) (control : Control) → KeepsDrive d o past
+    → KeepsDrive (record d { settings = power_after control d.settings }) o (did (control_deed control) ∷ past)
+power_after-by d o past Standby k = power-keeps d o past true k
+power_after-by d o past Idle k = power-keeps d o past false k
+power_after-by d o past SetMultiple k = nothing-keeps d o past (did Nothing) refl k
+power_after-by d o past CheckPowerMode k = nothing-keeps d o past (did Nothing) refl k
+power_after-by d o past Diagnose k = nothing-keeps d o past (did Nothing) refl k
+
+pub power_after-keeps : (d e : DriveState) (o : Origin) (past : List Event) (control : Control) → e ≡ record d { settings = power_after control d.settings }
+    → KeepsDrive d o past → KeepsDrive e o (did (control_deed control) ∷ past)
+power_after-keeps d e o past control is k =
+    subst (λ (x : DriveState). KeepsDrive x o (did (control_deed control) ∷ past)) (sym is) (power_after-by d o past control k)
 
 -- log page 10h is read, which ends a failure
 mended-by : (d : DriveState) (o : Origin) (past : List Event) (x : Option Failure) → failure past ≡ x

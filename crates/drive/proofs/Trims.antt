@@ -18,6 +18,7 @@ use Rattle.shadow_mbr.specs.declared.erasure.Erasure.{Erasure}
 use Rattle.trusted_cmds.specs.declared.command.Command.TheVariants.{Trim}
 use Rattle.trusted_cmds.specs.declared.trim.Extent.{Extent}
 use Rattle.trusted_cmds.specs.Trims.{entry_size, some_sectors, extents_of, extents_in, has_sector}
+use Rattle.device_data.specs.Settings.{active}
 use Rattle.history.specs.Opening.{Origin}
 use Rattle.history.specs.Events.{Trimmed, Event, did, or_else}
 use Rattle.history.specs.Readers.{trimming}
@@ -165,7 +166,7 @@ trim-refused h d o past payload blocks r refusal a told is t k =
 -- a TRIM that is done
 pub trim-done : (h : RegH2d) (d e : DriveState) (o : Origin) (past : List Event) (payload : List ℕ) (blocks : ℕ) (r : Option Refusal) (a : Accepted)
     → refusal_told r ≡ trim_refusal d (extents_in payload) → r ≡ None
-    → command_read d.tper.store.config h ≡ Ok (Trim blocks, None) → e.tper ≡ d.tper → e.queue ≡ d.queue → e.settings ≡ d.settings
+    → command_read d.tper.store.config h ≡ Ok (Trim blocks, None) → e.tper ≡ d.tper → e.queue ≡ d.queue → e.settings ≡ active d.settings
     → ((s : ℕ) → sector_at e.media s ≡ unwrap_or (trimming s (extents_in payload)) (sector_at d.media s))
     → IsTold a ready 0 false (answer_fis true ready 0 ∷ []) [] None None
     → KeepsDrive d o past → IsDoneAndAnswered (facts o past) h (decision_event (facts o past) payload (Trims blocks)) e o past a

@@ -8,6 +8,7 @@ use Rattle.history.specs.Facts.{Facts}
 use Rattle.history.specs.Answers.{status_of, is_holding, completed_fises, completed_data, fises_of, answer_fis, diagnosed_fis, power_fis, pio_fis, setup_fis, moved_fis, ready, busy}
 use Rattle.history.specs.Tcg.{answer_data, answer_fises}
 use Rattle.shadow_mbr.specs.Stored.{sector_at, heads}
+use Rattle.device_data.specs.Settings.{active}
 use Rattle.drive.specs.Transfer.{by_op, queued_command, held_bytes, sector_then}
 use Rattle.drive.specs.Queue.{with_slot}
 use Rattle.drive.specs.State.{DriveState, kept_facts, KeepsDrive}
@@ -24,7 +25,7 @@ form_fises Register is_held status error = answer_fis (not is_held) status error
 form_fises PioIn is_held status error = pio_fis true ready ∷ []
 form_fises PioOut is_held status error = pio_fis false busy ∷ answer_fis true ready 0 ∷ []
 form_fises Diagnosed is_held status error = diagnosed_fis ∷ []
-form_fises Powered is_held status error = power_fis ∷ []
+form_fises (Powered in_standby) is_held status error = power_fis in_standby ∷ []
 
 -- The FISes of an answer.
 abbrev pub fises_in : Accepted → List Fis
@@ -63,13 +64,13 @@ abbrev pub IsDoneAndAnswered : Facts → RegH2d → Event → DriveState → Ori
 IsDoneAndAnswered f h event d o past answer = KeepsDrive d o (event ∷ past)
     × IsAnswer f h event answer
 
--- What a completion of what is in a slot changes and gives: its slot is free, and a write has moved
--- its bytes. `gives` is what it gives of the bytes that it reads.
+-- What a completion of what is in a slot changes and gives: its slot is free, the drive is active, and
+-- a write has moved its bytes. `gives` is what it gives of the bytes that it reads.
 pub record Finishes (gives : List ℕ → List ℕ) (tag : ℕ) (payload : List ℕ) (held : Held)
     (old new : DriveState) (done : Completed) : Type 0 where
   pub tper : new.tper ≡ old.tper
   pub queue : new.queue ≡ with_slot tag None old.queue
-  pub settings : new.settings ≡ old.settings
+  pub settings : new.settings ≡ active old.settings
   pub media : (s : ℕ) → sector_at new.media s
       ≡ sector_then held.transfer payload (sector_at old.media s) s
   pub fises : fises_done done ≡ fises_of tag (queued_command held.transfer)

@@ -21,7 +21,7 @@ use Rattle.sp_cells.specs.Resets.{programmatic}
 use Rattle.sessions.specs.Deeds.{StackTold}
 use Rattle.history.specs.Events.{Deed, Nothing, InSession, Silent, OfQueue, QueueFailed, QueueMended, Wrote, WasReset, BlockedSid, Chose, Event, did}
 use Rattle.history.specs.Facts.{Facts}
-use Rattle.history.specs.Decisions.{aborted, not_found, fails, holds, received, is_session_com_id, discovery_com_id, unreceived, asks_stack, trimmed}
+use Rattle.history.specs.Decisions.{was_read, control_deed, aborted, not_found, fails, holds, received, is_session_com_id, discovery_com_id, unreceived, asks_stack, trimmed}
 use Rattle.history.specs.Tcg.{sent, stack_sent, command_read, unsent, unqueued}
 use Rattle.tper.specs.Tper.{Tper}
 use Rattle.drive.specs.Transfer.{by_op, queued_command, unqueued_command, CanGo, verdict_held, is_on_drive, StandsOnDrive}
@@ -86,7 +86,7 @@ FitsPolicy d transfer is_shadowed =
 
 -- What an unqueued transfer does at once.
 abbrev pub transfer_deed : Transfer → List ℕ → Deed
-transfer_deed transfer payload = by_op transfer.op Nothing (Wrote transfer.lba payload)
+transfer_deed transfer payload = by_op transfer.op was_read (Wrote transfer.lba payload)
 
 -- What the other commands do.
 abbrev pub executed : Facts → List ℕ → Command → Event
@@ -96,6 +96,7 @@ executed f payload (Receive protocol com_id blocks dma) =
 executed f payload (ReadLog10 dma) =
     did (if is_some f.failure then OfQueue QueueMended else Nothing)
 executed f payload (SetFeatures feature) = did (Chose feature)
+executed f payload (Control control) = did (control_deed control)
 executed f payload _ = did Nothing
 
 -- What is for the stack of a ComID, and what that does.

@@ -5,12 +5,14 @@ ghost use Rattle.history.specs.Answers.{answer_fis, diagnosed_fis, moved_fis, pi
 ghost use Rattle.drive.specs.Answers.{form_fises, fises_in, fises_done};
 ghost use Rattle.drive.specs.Transfer.{by_op, unqueued_command};
 ghost use Rattle.drive.specs.declared.answer.Form.TheVariants.{Register};
+ghost use Rattle.device_data.specs.declared.settings.Settings.{Settings};
 
 use crate::decision::Objection;
 use crate::transfer::{Transfer, Way};
 use arrayvec::ArrayVec;
 use audit::Why;
 use audit::rules::Rule;
+use device_data::Settings;
 use fis::{DmaSetup, Fis, Lba, PioSetup, RegD2h, SetDeviceBits, StatusBits, Tag};
 use locking::Op;
 use shadow_mbr::SECTOR_SIZE;
@@ -48,7 +50,7 @@ pub enum Form {
     /// A Register FIS with the signature of the device, and the code of tests that were passed.
     Diagnosed,
     /// A Register FIS with the power mode of the device.
-    Powered,
+    Powered { in_standby: bool },
 }
 
 /// What a completed command gives: its FISes and its data.
@@ -87,6 +89,9 @@ const PASSED: u8 = 1;
 /// The power mode of a device that is active, or idle (ACS-3, CHECK POWER MODE).
 const ACTIVE_OR_IDLE: u16 = 0xff;
 
+/// That of a device that is in standby.
+const STANDBY: u16 = 0x00;
+
 impl Accepted {
     /// Whether the command failed: the status is 51h.
     pub fn has_failed(&self) -> bool
@@ -108,7 +113,7 @@ impl Accepted {
                 fises.push(answer_fis(true, READY, 0));
             }
             Form::Diagnosed => fises.push(diagnosed_fis()),
-            Form::Powered => fises.push(power_fis()),
+            Form::Powered { in_standby } => fises.push(power_fis(in_standby)),
         }
         fises
     }
@@ -268,13 +273,13 @@ fn diagnosed_fis() -> Fis
 }
 
 /// A register FIS with the power mode of the device.
-fn power_fis() -> Fis
-    ensures { result ≡ power_fis }
+fn power_fis(in_standby: bool) -> Fis
+    ensures { result ≡ power_fis in_standby }
 {
     Fis::D2h(RegD2h {
         interrupt: true,
         status: READY,
-        count: ACTIVE_OR_IDLE,
+        count: if in_standby { STANDBY } else { ACTIVE_OR_IDLE },
         ..RegD2h::default()
     })
 }
@@ -293,10 +298,10 @@ fn pio_fis(to_host: bool, end_status: u8) -> Fis
     })
 }
 
-/// The form of a command that was executed: those that read by PIO have a PIO Setup FIS alone, those that bring data by PIO
-/// have it in front.
-pub(crate) fn served_form(command: &Command) -> Form
-    ensures { form_fises result false ready 0 ≡ served_fises command.now }
+/// The form of a command that was executed, by what the host had chosen before: those that read by PIO have a PIO Setup FIS
+/// alone, those that bring data by PIO have it in front.
+pub(crate) fn served_form(command: &Command, settings: &Settings) -> Form
+    ensures { form_fises result false ready 0 ≡ served_fises settings.now command.now }
 {
     match *command {
         Command::Send { dma: false, .. } => Form::PioOut,
@@ -310,14 +315,17 @@ pub(crate) fn served_form(command: &Command) -> Form
         } => Form::Diagnosed,
         Command::Control {
             control: Control::CheckPowerMode,
-        } => Form::Powered,
+        } => Form::Powered {
+            in_standby: settings.in_standby,
+        },
         _ => Form::Register,
     }
 }
 
 /// The form of a transfer that is not queued, and was permitted.
 pub(crate) fn moved_form(way: Way, transfer: &Transfer) -> Form
-    ensures { form_fises result false ready 0 ≡ served_fises (unqueued_command way transfer.now) }
+    ensures { (settings : Settings) → form_fises result false ready 0
+        ≡ served_fises settings (unqueued_command way transfer.now) }
 {
     match (way, transfer.op) {
         (Way::Pio, Op::Read) => Form::PioIn,

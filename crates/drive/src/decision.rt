@@ -102,6 +102,13 @@ pub(crate) fn objection_to(cause: &Cause) -> Objection
     }
 }
 
+/// The error of the command that failed a queue.
+pub(crate) fn error_of(failure: &Failure) -> u8
+    ensures { result ≡ failure.now.error }
+{
+    failure.error
+}
+
 /// The error of a command that is aborted or denied (ACS-3, ABRT).
 pub(crate) const ABORTED: u8 = 0x04;
 

@@ -25,7 +25,7 @@ use sp_cells::{DriveConfig, SetError, Sp};
 use sp_tables::Tables;
 use std::alloc::{AllocError, Global};
 use std::marker::Model;
-use std::mem::{replace, swap};
+use std::mem::replace;
 use tper::{Tper, sized};
 use transactions::View;
 use trusted_cmds::{Command, SidBlock, is_block_sid, is_programmatic_reset};
@@ -53,7 +53,7 @@ pub struct Drive {
     pub(crate) media: Box<Media>,
     pub(crate) settings: Settings,
     /// A vector for the bytes of the next read, or of the next response.
-    spare: Vec<u8>,
+    pub(crate) spare: Vec<u8>,
 }
 
 impl Model for Drive {
@@ -86,6 +86,7 @@ impl Drive {
     ghost use Rattle.fis.specs.declared.h2d.RegH2d.{RegH2d};
     ghost use Rattle.shadow_mbr.specs.Stored.{sector_at, sector_size, heads};
     ghost use Rattle.device_data.specs.Discovery.{has_owner, discovery_of};
+    ghost use Rattle.device_data.specs.Settings.{active};
     ghost use Rattle.trusted_cmds.specs.BlockSid.{is_block_sid, is_blocked};
     ghost use Rattle.device_data.specs.ErrorLog.{sized, error_log as log_page};
     ghost use Rattle.transactions.specs.Sights.{look_up, committed_sight};
@@ -741,30 +742,15 @@ impl Drive {
         }
     }
 
-    /// Lets what is held under the tag go.
+    /// Lets what is held under the tag go, whose data moved: the drive is active.
     fn release(&mut self, tag: Tag)
-        ensures { self.new ≡ record self.old { queue = with_slot tag None self.old.queue } }
+        ensures { self.new ≡ record self.old {
+          queue = with_slot tag None self.old.queue;
+          settings = active self.old.settings;
+        } }
     {
         self.queue.release(tag);
-    }
-
-    /// Takes back the vector of an answer: the next read or response puts its bytes there, and takes no
-    /// memory where there is room.
-    pub fn give_back(&mut self, bytes: Vec<u8>)
-        ensures { self.new ≡ self.old }
-    {
-        if self.spare.capacity() < bytes.capacity() {
-            self.spare = bytes;
-        }
-    }
-
-    /// [`Drive::give_back`] of a vector that stays where it is: what it holds then is not said.
-    pub fn give_back_from(&mut self, bytes: &mut Vec<u8>)
-        ensures { self.new ≡ self.old }
-    {
-        if self.spare.capacity() < bytes.capacity() {
-            swap(&mut self.spare, bytes);
-        }
+        self.settings = self.settings.active();
     }
 
     /// Ends sessions and transactions, drops the responses that wait, what is held and the failure of

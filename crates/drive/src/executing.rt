@@ -4,7 +4,7 @@ ghost use Rattle.std.specs.Prelude.{◌≡◌, ◌∷◌, List, length, IfOk, On
 
 use crate::answer::{Accepted, moved_form, served_form};
 use crate::deciding::DISCOVERY_COM_ID;
-use crate::decision::{Decision, Objection, objection_to};
+use crate::decision::{Decision, Objection, error_of, objection_to};
 use crate::drive::Drive;
 use crate::reset::PROGRAMMATIC;
 use crate::transfer::{Held, Way};
@@ -76,15 +76,15 @@ impl Drive {
         ensures err { OnErr result (self.new ≡ self.old) }
         ensures unsaid { OnErr result (answer.new ≡ answer.old) }
     {
+        let settings = self.chosen();
         match decision {
             Decision::Aborts { error, cause } => {
                 answer.set_failed(error, objection_to(&cause));
                 Ok(())
             }
             Decision::FailsQueue { failure, cause } => {
-                let error = failure.error;
+                answer.set_failed(error_of(&failure), objection_to(&cause));
                 self.fail_queue(failure);
-                answer.set_failed(error, objection_to(&cause));
                 Ok(())
             }
             Decision::Holds { tag, held } => {
@@ -94,23 +94,24 @@ impl Drive {
             }
             Decision::Moves { held, way } => {
                 let bytes = self.move_so(&held, way, payload)?;
+                self.wake();
                 answer.set_served(moved_form(way, &held.transfer), bytes, Objection::none());
                 Ok(())
             }
             Decision::Trims { blocks } => self.trim(h, blocks, payload, answer),
             Decision::Executes(command) => {
                 let (bytes, objection) = self.execute(&command, payload)?;
-                answer.set_served(served_form(&command), bytes, objection);
+                answer.set_served(served_form(&command, &settings), bytes, objection);
                 Ok(())
             }
             Decision::Restarts(command) => {
                 self.restart(PROGRAMMATIC);
-                answer.set_done(served_form(&command));
+                answer.set_done(served_form(&command, &settings));
                 Ok(())
             }
             Decision::Blocks(command) => {
                 self.block_sid(SidBlock::asked(payload));
-                answer.set_done(served_form(&command));
+                answer.set_done(served_form(&command, &settings));
                 Ok(())
             }
             Decision::AsksStack(command) => self.ask_stack(h, command, payload, answer),
@@ -173,11 +174,9 @@ impl Drive {
                     return Ok((self.protocols(room)?, Objection::none()));
                 }
                 if self.asks_certificates(command) {
-                    let told = self.certificates(room)?;
-                    return Ok((told, Objection::none()));
+                    return Ok((self.certificates(room)?, Objection::none()));
                 }
-                let bytes = self.received(sp_specific, room)?;
-                Ok((bytes, Objection::none()))
+                Ok((self.received(sp_specific, room)?, Objection::none()))
             }
             Command::Identify => Ok((self.identify()?, Objection::none())),
             Command::ReadLog10 { .. } => Ok((self.read_log()?, Objection::none())),
@@ -187,7 +186,10 @@ impl Drive {
                 Ok((Vec::new(self.allocator()), Objection::none()))
             }
             Command::ReadLog { pages, .. } => Ok((self.device_log(&pages)?, Objection::none())),
-            Command::Control { .. } => Ok((Vec::new(self.allocator()), Objection::none())),
+            Command::Control { control } => {
+                self.set_power(control);
+                Ok((Vec::new(self.allocator()), Objection::none()))
+            }
             Command::ReadQueued { .. }
             | Command::WriteQueued { .. }
             | Command::ReadDma { .. }

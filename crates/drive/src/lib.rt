@@ -12,6 +12,7 @@ mod executing;
 mod heads;
 mod interface;
 mod laws;
+mod memory;
 mod opening;
 mod payload;
 mod queue;

@@ -48,8 +48,9 @@ impl Drive {
         ensures err { OnErr result (self.new ≡ self.old) }
         ensures unsaid { OnErr result (answer.new ≡ answer.old) }
     {
+        let settings = self.chosen();
         let (bytes, objection) = self.asked_of_stack(&command, payload)?;
-        answer.set_served(served_form(&command), bytes, objection);
+        answer.set_served(served_form(&command, &settings), bytes, objection);
         Ok(())
     }
 

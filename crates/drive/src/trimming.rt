@@ -110,8 +110,10 @@ impl Drive {
             answer.set_failed(refusal.error, objection_to(&refusal.cause));
             return Ok(());
         }
+        let settings = self.chosen();
         self.wipe(&extents)?;
-        answer.set_done(served_form(&Command::Trim { blocks }));
+        self.wake();
+        answer.set_done(served_form(&Command::Trim { blocks }, &settings));
         Ok(())
     }
 

@@ -5,7 +5,8 @@ use Rattle.fis.specs.declared.any.Fis.{Fis}
 use Rattle.hba_regs.specs.Registers.{Regs, without}
 use Rattle.trusted_cmds.specs.declared.command.Command.{Command}
 use Rattle.trusted_cmds.specs.declared.command.Command.TheVariants.{ReadQueued, WriteQueued, ReadDma, WriteDma, Send, Receive, Identify, ReadLog10, Flush, SetFeatures, ReadLog, ReadPio, WritePio, Verify, Trim, Control}
-use Rattle.trusted_cmds.specs.declared.control.Control.TheVariants.{SetMultiple, Idle, CheckPowerMode, Diagnose}
+use Rattle.trusted_cmds.specs.declared.control.Control.TheVariants.{SetMultiple, Idle, Standby, CheckPowerMode, Diagnose}
+use Rattle.device_data.specs.declared.settings.Settings.{Settings}
 use Rattle.trusted_cmds.specs.declared.command.CommandError.{CommandError}
 use Rattle.history.specs.Answers.{errored, ready, answer_fis, served_fises, fises_read, fises_of, completed_fises, setup_fis, moved_fis}
 use Rattle.history.specs.Events.{HeldCommand}
@@ -19,45 +20,46 @@ use Rattle.hba.specs.Blocks.{of_last_block}
 use Rattle.hba.specs.Laws.{ToldByDeviceBits}
 use Rattle.hba.proofs.Shown.{task_active, blocks_active}
 
-served_active : (tag : ℕ) (regs : Regs) (command : Command)
-    → (all_shown tag regs (served_fises command)).active ≡ regs.active
-served_active tag regs (ReadQueued lba count) = refl
-served_active tag regs (WriteQueued lba count) = refl
-served_active tag regs (ReadDma lba count) = refl
-served_active tag regs (WriteDma lba count) = refl
-served_active tag regs (Send protocol com_id blocks true) = refl
-served_active tag regs (Send protocol com_id blocks false) = refl
-served_active tag regs (Receive protocol com_id blocks true) = refl
-served_active tag regs (Receive protocol com_id blocks false) = refl
-served_active tag regs Identify = refl
-served_active tag regs (ReadLog10 true) = refl
-served_active tag regs (ReadLog10 false) = refl
-served_active tag regs Flush = refl
-served_active tag regs (SetFeatures feature) = refl
-served_active tag regs (ReadLog page true) = refl
-served_active tag regs (ReadLog page false) = refl
-served_active tag regs (ReadPio lba count) = refl
-served_active tag regs (WritePio lba count) = refl
-served_active tag regs (Verify lba count) = refl
-served_active tag regs (Trim blocks) = refl
-served_active tag regs (Control SetMultiple) = refl
-served_active tag regs (Control Idle) = refl
-served_active tag regs (Control CheckPowerMode) = refl
-served_active tag regs (Control Diagnose) = refl
+served_active : (tag : ℕ) (regs : Regs) (settings : Settings) (command : Command)
+    → (all_shown tag regs (served_fises settings command)).active ≡ regs.active
+served_active tag regs settings (ReadQueued lba count) = refl
+served_active tag regs settings (WriteQueued lba count) = refl
+served_active tag regs settings (ReadDma lba count) = refl
+served_active tag regs settings (WriteDma lba count) = refl
+served_active tag regs settings (Send protocol com_id blocks true) = refl
+served_active tag regs settings (Send protocol com_id blocks false) = refl
+served_active tag regs settings (Receive protocol com_id blocks true) = refl
+served_active tag regs settings (Receive protocol com_id blocks false) = refl
+served_active tag regs settings Identify = refl
+served_active tag regs settings (ReadLog10 true) = refl
+served_active tag regs settings (ReadLog10 false) = refl
+served_active tag regs settings Flush = refl
+served_active tag regs settings (SetFeatures feature) = refl
+served_active tag regs settings (ReadLog page true) = refl
+served_active tag regs settings (ReadLog page false) = refl
+served_active tag regs settings (ReadPio lba count) = refl
+served_active tag regs settings (WritePio lba count) = refl
+served_active tag regs settings (Verify lba count) = refl
+served_active tag regs settings (Trim blocks) = refl
+served_active tag regs settings (Control SetMultiple) = refl
+served_active tag regs settings (Control Idle) = refl
+served_active tag regs settings (Control Standby) = refl
+served_active tag regs settings (Control CheckPowerMode) = refl
+served_active tag regs settings (Control Diagnose) = refl
 
-read_active : (tag : ℕ) (regs : Regs) (read : Result (Command × Option ℕ) CommandError)
-    → (all_shown tag regs (fises_read read)).active ≡ regs.active
-read_active tag regs (Err e) = refl
-read_active tag regs (Ok (command, slot)) = served_active tag regs command
+read_active : (tag : ℕ) (regs : Regs) (settings : Settings) (read : Result (Command × Option ℕ) CommandError)
+    → (all_shown tag regs (fises_read settings read)).active ≡ regs.active
+read_active tag regs settings (Err e) = refl
+read_active tag regs settings (Ok (command, slot)) = served_active tag regs settings command
 
-accepted_active : (tag : ℕ) (regs : Regs) (error : Option ℕ) (holds : Bool)
+accepted_active : (tag : ℕ) (regs : Regs) (settings : Settings) (error : Option ℕ) (holds : Bool)
     (read : Result (Command × Option ℕ) CommandError)
     → (all_shown tag regs
     (if is_some error then answer_fis true errored (unwrap_or error 0) ∷ []
-    else (if holds then answer_fis false ready 0 ∷ [] else fises_read read))).active ≡ regs.active
-accepted_active tag regs (Some error) holds read = refl
-accepted_active tag regs None true read = refl
-accepted_active tag regs None false read = read_active tag regs read
+    else (if holds then answer_fis false ready 0 ∷ [] else fises_read settings read))).active ≡ regs.active
+accepted_active tag regs settings (Some error) holds read = refl
+accepted_active tag regs settings None true read = refl
+accepted_active tag regs settings None false read = read_active tag regs settings read
 
 -- The registers after an act of the drive, whatever was missed behind it.
 pub served_same : (missed : Option Miss) (tag : ℕ) (fises : List Fis) (regs : Registers)
@@ -70,16 +72,16 @@ served_same (Some misses.Block) tag fises regs e = refl
 served_same (Some misses.Overflow) tag fises regs e = refl
 served_same (Some misses.Fis) tag fises regs e = e
 
-pub fetched_same : (arrival : Arrival) (tag : ℕ) (regs : Registers) (error : Option ℕ) (holds : Bool)
+pub fetched_same : (arrival : Arrival) (tag : ℕ) (regs : Registers) (settings : Settings) (error : Option ℕ) (holds : Bool)
     (read : Result (Command × Option ℕ) CommandError) (n : ℕ) (given fises : List Fis)
     → fises ≡ map (of_last_block n) given
     → given ≡ (if is_some error then answer_fis true errored (unwrap_or error 0) ∷ []
-    else (if holds then answer_fis false ready 0 ∷ [] else fises_read read))
+    else (if holds then answer_fis false ready 0 ∷ [] else fises_read settings read))
     → (arrived tag fises arrival (fetching tag regs)).port.active ≡ regs.port.active
-fetched_same arrival tag regs error holds read n given fises m e =
+fetched_same arrival tag regs settings error holds read n given fises m e =
     let before = moved arrival (fetching tag regs) in
     served_same arrival.missed tag fises before
-    (rw m (blocks_active n tag given before.port ∙ rw e (accepted_active tag before.port error holds read)))
+    (rw m (blocks_active n tag given before.port ∙ rw e (accepted_active tag before.port settings error holds read)))
 
 -- The two FISes of a completion.
 pub moved_active : (tag : ℕ) (to_host : Bool) (count : ℕ) (regs : Regs)

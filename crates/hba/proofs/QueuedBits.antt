@@ -10,7 +10,8 @@ use Rattle.hba_regs.specs.declared.register.Register.TheVariants as at
 use Rattle.hba_regs.specs.Registers.{Regs, has_bits, start_bit, run_if, without}
 use Rattle.trusted_cmds.specs.declared.command.Command.{Command}
 use Rattle.trusted_cmds.specs.declared.command.Command.TheVariants.{ReadQueued, WriteQueued, ReadDma, WriteDma, Send, Receive, Identify, ReadLog10, Flush, SetFeatures, ReadLog, ReadPio, WritePio, Verify, Trim, Control}
-use Rattle.trusted_cmds.specs.declared.control.Control.TheVariants.{SetMultiple, Idle, CheckPowerMode, Diagnose}
+use Rattle.trusted_cmds.specs.declared.control.Control.TheVariants.{SetMultiple, Idle, Standby, CheckPowerMode, Diagnose}
+use Rattle.device_data.specs.declared.settings.Settings.{Settings}
 use Rattle.trusted_cmds.specs.declared.command.CommandError.{CommandError}
 use Rattle.history.specs.Answers.{errored, ready, answer_fis, is_holding, served_fises, fises_read, fises_of, completed_fises}
 use Rattle.history.specs.Events.{HeldCommand}
@@ -112,43 +113,44 @@ served_queued (Some misses.Overflow) tag slot list regs t w = refl
 served_queued (Some misses.Fis) tag slot list regs t w = all_queued tag slot list regs.port t w
 
 -- A command that is accepted has none of them.
-served_words : (n : ℕ) (command : Command) → AreWords (map (of_last_block n) (served_fises command))
-served_words n (ReadQueued lba count) = tt
-served_words n (WriteQueued lba count) = tt
-served_words n (ReadDma lba count) = tt
-served_words n (WriteDma lba count) = tt
-served_words n (Send protocol com_id blocks true) = tt
-served_words n (Send protocol com_id blocks false) = tt
-served_words n (Receive protocol com_id blocks true) = tt
-served_words n (Receive protocol com_id blocks false) = tt
-served_words n Identify = tt
-served_words n (ReadLog10 true) = tt
-served_words n (ReadLog10 false) = tt
-served_words n Flush = tt
-served_words n (SetFeatures feature) = tt
-served_words n (ReadLog page true) = tt
-served_words n (ReadLog page false) = tt
-served_words n (ReadPio lba count) = tt
-served_words n (WritePio lba count) = tt
-served_words n (Verify lba count) = tt
-served_words n (Trim blocks) = tt
-served_words n (Control SetMultiple) = tt
-served_words n (Control Idle) = tt
-served_words n (Control CheckPowerMode) = tt
-served_words n (Control Diagnose) = tt
+served_words : (n : ℕ) (settings : Settings) (command : Command) → AreWords (map (of_last_block n) (served_fises settings command))
+served_words n settings (ReadQueued lba count) = tt
+served_words n settings (WriteQueued lba count) = tt
+served_words n settings (ReadDma lba count) = tt
+served_words n settings (WriteDma lba count) = tt
+served_words n settings (Send protocol com_id blocks true) = tt
+served_words n settings (Send protocol com_id blocks false) = tt
+served_words n settings (Receive protocol com_id blocks true) = tt
+served_words n settings (Receive protocol com_id blocks false) = tt
+served_words n settings Identify = tt
+served_words n settings (ReadLog10 true) = tt
+served_words n settings (ReadLog10 false) = tt
+served_words n settings Flush = tt
+served_words n settings (SetFeatures feature) = tt
+served_words n settings (ReadLog page true) = tt
+served_words n settings (ReadLog page false) = tt
+served_words n settings (ReadPio lba count) = tt
+served_words n settings (WritePio lba count) = tt
+served_words n settings (Verify lba count) = tt
+served_words n settings (Trim blocks) = tt
+served_words n settings (Control SetMultiple) = tt
+served_words n settings (Control Idle) = tt
+served_words n settings (Control Standby) = tt
+served_words n settings (Control CheckPowerMode) = tt
+served_words n settings (Control Diagnose) = tt
 
-read_words : (n : ℕ) (read : Result (Command × Option ℕ) CommandError)
-    → AreWords (map (of_last_block n) (fises_read read))
-read_words n (Err e) = tt
-read_words n (Ok (command, slot)) = served_words n command
+read_words : (n : ℕ) (settings : Settings) (read : Result (Command × Option ℕ) CommandError)
+    → AreWords (map (of_last_block n) (fises_read settings read))
+read_words n settings (Err e) = tt
+read_words n settings (Ok (command, slot)) = served_words n settings command
 
-accepted_words : (n : ℕ) (error : Option ℕ) (holds : Bool) (read : Result (Command × Option ℕ) CommandError)
+accepted_words : (n : ℕ) (settings : Settings) (error : Option ℕ) (holds : Bool) (read : Result (Command × Option ℕ) CommandError)
     → AreWords (map (of_last_block n)
     (if is_some error then answer_fis true errored (unwrap_or error 0) ∷ []
-    else (if holds then answer_fis false ready 0 ∷ [] else fises_read read)))
-accepted_words n (Some error) holds read = tt
-accepted_words n None true read = tt
-accepted_words n None false read = read_words n read
+    else (if holds then answer_fis false ready 0 ∷ [] else fises_read settings read)))
+accepted_words n settings (Some error) holds read = tt
+accepted_words n settings None true read = tt
+accepted_words n settings None false read = read_words n settings read
 
 -- A completion has the bit of its tag.
 command_words : (tag : ℕ) (command : Command) → tag < 32 → AreWords (fises_of tag command)
@@ -195,7 +197,7 @@ queued_law o (Fetched slot fis payload arrival ∷ before) tag w t =
     let list = (effect_after o (account o before) (Accept fis payload)).fises in
     let n = (length payload + length (drive_effect o (account o before) (Accept fis payload)).bytes) / block_size in
     served_queued arrival.missed tag slot list (moved arrival (fetching slot (regs_of o before))) t
-    (accepted_words n event.failed (is_holding event.deed) (command_read f.config (h2d_at fis)))
+    (accepted_words n f.settings event.failed (is_holding event.deed) (command_read f.config (h2d_at fis)))
     ∙ ap (λ (b : Bool). not (one_ends_queued tag (shown_if arrival.missed list)) && b) (queued_law o before tag w.1 t)
 queued_law o (Completed slot payload arrival ∷ before) tag w t =
     let f = facts o (log o (acts_of o before)) in

@@ -14,9 +14,9 @@ use Rattle.trusted_cmds.specs.declared.command.Command.{Command}
 use Rattle.trusted_cmds.specs.declared.command.Command.TheVariants.{ReadQueued, WriteQueued, ReadDma, WriteDma, ReadPio, WritePio, Verify}
 use Rattle.trusted_cmds.specs.declared.command.CommandError.{CommandError}
 use Rattle.history.specs.Answers.{errored, ready, answer_fis, pio_fis, is_holding, served_fises, fises_read, fises_of, completed_fises, completed_data, setup_fis, moved_fis, read_by, block_of, data_read_of}
-use Rattle.history.specs.Decisions.{on_drive, ranges_in_force, verdict_on, not_found, unqueued_by, fails, completed}
+use Rattle.history.specs.Decisions.{on_drive, ranges_in_force, verdict_on, not_found, unqueued_by, fails, completed, was_read}
 use Rattle.history.specs.DenialLaws.{Reaches, read_queued, write_queued, read_dma, write_dma, read_pio, write_pio, verify}
-use Rattle.history.specs.Events.{HeldCommand, Deed, Nothing, Wrote as WroteSectors, Event, OfQueue, CompletedWrite}
+use Rattle.history.specs.Events.{HeldCommand, Deed, Wrote as WroteSectors, Event, OfQueue, CompletedWrite}
 use Rattle.history.specs.Facts.{Facts}
 use Rattle.history.specs.History.{Act, Accept, Complete, Reset, SoftwareReset, event_by}
 use Rattle.history.specs.MethodLaws.{IsLookedAt}
@@ -27,6 +27,7 @@ use Rattle.history.proofs.MethodProofs.{looked_event, looked_law}
 use Rattle.history.proofs.TransferProofs.{service_law}
 use Rattle.audit.specs.declared.rules.rule.Rule.TheVariants.{BeyondDrive}
 use Rattle.port_history.specs.Steps.{Effect}
+use Rattle.device_data.specs.declared.settings.Settings.{Settings}
 use Rattle.host_memory.specs.Memory.{Delivers, data_taken}
 use Rattle.host_memory.specs.Access.{Access}
 use Rattle.host_memory.specs.declared.hba_memory.miss.Miss.{Miss}
@@ -46,12 +47,12 @@ use Rattle.hba.proofs.BitsOfWords.{equal, has_without_one}
 use Rattle.hba.proofs.Active.{moved_active}
 
 -- FISes and data of a command that is served.
-fises_by : (failed : Option ℕ) (holds : Bool) (read : Result (Command × Option ℕ) CommandError) (command : Command)
+fises_by : (settings : Settings) (failed : Option ℕ) (holds : Bool) (read : Result (Command × Option ℕ) CommandError) (command : Command)
     → failed ≡ None → holds ≡ false → read ≡ Ok (command, None)
     → (if is_some failed then answer_fis true errored (unwrap_or failed 0) ∷ []
-    else (if holds then answer_fis false ready 0 ∷ [] else fises_read read))
-    ≡ served_fises command
-fises_by failed holds read command a b c = rw a (rw b (rw c refl))
+    else (if holds then answer_fis false ready 0 ∷ [] else fises_read settings read))
+    ≡ served_fises settings command
+fises_by settings failed holds read command a b c = rw a (rw b (rw c refl))
 
 data_by : (f : Facts) (failed : Option ℕ) (read : Result (Command × Option ℕ) CommandError) (command : Command)
     → failed ≡ None → read ≡ Ok (command, None)
@@ -125,7 +126,7 @@ answered_so : (o : Origin) (before : List Operation) (tag : ℕ) (fis payload : 
     → command_read (facts_behind o before).config (h2d_at fis) ≡ Ok (command, None)
     → (event_by (facts_behind o before) (Accept fis payload)).failed ≡ None
     → is_holding (event_by (facts_behind o before) (Accept fis payload)).deed ≡ false
-    → served_fises command ≡ fises
+    → served_fises (facts_behind o before).settings command ≡ fises
     → block_of tcg (facts_behind o before) command ≡ bytes
     → ((n m : ℕ) → data_taken (map (of_last_block n) fises) m ≡ m)
     → ((n : ℕ) → one_ends (map (of_last_block n) fises) ≡ true)
@@ -138,7 +139,7 @@ answered_so o before tag fis payload command fises bytes read failed holds told 
     data_by f event.failed (command_read f.config (h2d_at fis)) command failed read ∙ given in
     let shows : (effect_after o (account o before) (Accept fis payload)).fises ≡ map (of_last_block (blocks bytes)) fises =
     ap (map (of_last_block (blocks (drive_effect o (account o before) (Accept fis payload)).bytes)))
-    (fises_by event.failed (is_holding event.deed) (command_read f.config (h2d_at fis)) command failed holds read ∙ told)
+    (fises_by f.settings event.failed (is_holding event.deed) (command_read f.config (h2d_at fis)) command failed holds read ∙ told)
     ∙ ap (λ (xs : List ℕ). map (of_last_block (blocks xs)) fises) brings in
     record {
       gives = gives_so (effect_after o (account o before) (Accept fis payload)) (map (of_last_block (blocks bytes)) fises) bytes shows
@@ -184,8 +185,8 @@ by_writer P command slot op lba count (verify {lba = l} {count = n}) none is dma
 read_so : (o : Origin) (before : List Operation) (tag : ℕ) (fis payload : List ℕ) (command : Command) (lba count : ℕ) (fises : List Fis)
     (bytes : List ℕ) → Reaches command None Read lba count
     → ((h : RegH2d) (brought : List ℕ) → looked_event tcg (facts_behind o before) h brought command None
-    ≡ by_verdict Nothing (on_drive (facts_behind o before) lba count) (verdict_on (facts_behind o before) Read lba count))
-    → served_fises command ≡ fises
+    ≡ by_verdict was_read (on_drive (facts_behind o before) lba count) (verdict_on (facts_behind o before) Read lba count))
+    → served_fises (facts_behind o before).settings command ≡ fises
     → block_of tcg (facts_behind o before) command ≡ bytes
     → ((n m : ℕ) → data_taken (map (of_last_block n) fises) m ≡ m)
     → ((n : ℕ) → one_ends (map (of_last_block n) fises) ≡ true)
@@ -198,7 +199,7 @@ read_so o before tag fis payload command lba count fises bytes reaches same told
     answered_so o before tag fis payload command fises bytes (reads_so f fis payload command looked)
     ((service_law tcg f (Accept fis payload) command None Read lba count looked reaches tt on).served.1 permitted)
     (ap (λ (e : Event). is_holding e.deed) (looked_law tcg f (Accept fis payload) command None looked ∙ same (h2d_at looked.fis) looked.payload)
-    ∙ ap (λ (b : Bool). is_holding (by_verdict Nothing b v).deed) on ∙ none_held Nothing v refl)
+    ∙ ap (λ (b : Bool). is_holding (by_verdict was_read b v).deed) on ∙ none_held was_read v refl)
     told given takes ends
 
 pub read_law : ReadServedLaw
@@ -221,7 +222,7 @@ write_so : (o : Origin) (before : List Operation) (tag : ℕ) (fis payload : Lis
     → Reaches command None Write lba count
     → ((h : RegH2d) (brought : List ℕ) → looked_event tcg (facts_behind o before) h brought command None
     ≡ by_verdict (WroteSectors lba brought) (on_drive (facts_behind o before) lba count) (verdict_on (facts_behind o before) Write lba count))
-    → served_fises command ≡ serving_fises command
+    → served_fises (facts_behind o before).settings command ≡ serving_fises command
     → block_of tcg (facts_behind o before) command ≡ []
     → ((n m : ℕ) → data_taken (map (of_last_block n) (serving_fises command)) m ≡ m)
     → ((n : ℕ) → one_ends (map (of_last_block n) (serving_fises command)) ≡ true)

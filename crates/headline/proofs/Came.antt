@@ -12,10 +12,10 @@ use Rattle.trusted_cmds.specs.declared.command.Command.{Command}
 use Rattle.trusted_cmds.specs.declared.command.Command.TheVariants.{ReadQueued, WriteQueued, ReadDma, WriteDma, Send, Receive, Identify, ReadLog10, Flush, SetFeatures, ReadLog, ReadPio, WritePio, Verify, Trim, Control}
 use Rattle.trusted_cmds.specs.Commands.{tag_with}
 use Rattle.history.specs.Answers.{read_by, held_data, data_read_of}
-use Rattle.history.specs.Events.{Deed, Nothing, Wrote, Event}
+use Rattle.history.specs.Events.{Deed, Wrote, Event}
 use Rattle.history.specs.Items.{Items}
 use Rattle.history.specs.Facts.{Facts}
-use Rattle.history.specs.Decisions.{not_found, fails, fails_queue, on_drive, verdict_on, holds, queued_by, unqueued_by, unqueued_of, known_of}
+use Rattle.history.specs.Decisions.{not_found, fails, fails_queue, on_drive, verdict_on, holds, queued_by, unqueued_by, unqueued_of, known_of, was_read}
 use Rattle.port_history.specs.declared.request.Answer.{Answer}
 use Rattle.port_history.specs.declared.request.Answer.TheVariants as answers
 use Rattle.port_history.specs.Stages.{is_queued_command}
@@ -142,7 +142,7 @@ pub executed_is : (items : Items) (f : Facts) (payload : List ℕ) (command : Co
 executed_is items f payload (ReadQueued lba count) tag x unqueued_is is = absurd cc
 executed_is items f payload (WriteQueued lba count) tag x unqueued_is is = absurd cc
 executed_is items f payload (ReadDma lba count) tag x unqueued_is is =
-    served_now f Nothing Read lba count (on_drive f lba count) (verdict_on f Read lba count) _ refl
+    served_now f was_read Read lba count (on_drive f lba count) (verdict_on f Read lba count) _ refl
     ∙ same_transfer is
   where
     same_transfer : ◌≡◌ {A = Option Transfer} (Some (record { op = Read; lba = lba; count = count })) (Some x)

@@ -11,8 +11,8 @@ use Rattle.locking.specs.declared.ranges.Verdict.TheVariants.{Serve, Shadow, Den
 use Rattle.trusted_cmds.specs.declared.command.Command.{Command}
 use Rattle.trusted_cmds.specs.declared.command.Command.TheVariants as commands
 use Rattle.trusted_cmds.specs.Commands.{fis_of, tag_with}
-use Rattle.history.specs.Decisions.{not_found, fails, on_drive, verdict_on, unqueued_by, completed_by, unqueued_of}
-use Rattle.history.specs.Events.{Nothing, Wrote, Event, or_else, latest}
+use Rattle.history.specs.Decisions.{not_found, fails, on_drive, verdict_on, unqueued_by, completed_by, unqueued_of, was_read}
+use Rattle.history.specs.Events.{Wrote, Event, or_else, latest}
 use Rattle.history.specs.Items.{Items}
 use Rattle.history.specs.Answers.{data_read_of}
 use Rattle.history.specs.Facts.{Facts}
@@ -154,7 +154,7 @@ taken_quiet tag command f x h e (TakenFailed error denied is comes) place =
 
 -- Of one that is executed whole.
 read_quiet : (on : Bool) (v : Verdict) (place : ℕ)
-    → writing place (if on then unqueued_by Nothing v else fails not_found None (Some BeyondDrive)).deed ≡ None
+    → writing place (if on then unqueued_by was_read v else fails not_found None (Some BeyondDrive)).deed ≡ None
 read_quiet false v place = refl
 read_quiet true (Denied why) place = refl
 read_quiet true Serve place = refl
@@ -177,7 +177,7 @@ executed_unmoved : (items : Items) (f : Facts) (own : List Event) (content given
 executed_unmoved items f own content given (commands.ReadQueued lba count) unqueued_is k = absurd (cc)
 executed_unmoved items f own content given (commands.WriteQueued lba count) unqueued_is k = absurd (cc)
 executed_unmoved items f own content given (commands.ReadDma lba count) unqueued_is k =
-    λ undone. and_then (if on_drive f lba count then unqueued_by Nothing (verdict_on f Read lba count) else fails not_found None (Some BeyondDrive))
+    λ undone. and_then (if on_drive f lba count then unqueued_by was_read (verdict_on f Read lba count) else fails not_found None (Some BeyondDrive))
     own (read_quiet (on_drive f lba count) (verdict_on f Read lba count)) k
 executed_unmoved items f own content given (commands.WriteDma lba count) unqueued_is k =
     λ undone. and_then (if on_drive f lba count then unqueued_by (Wrote lba content) (verdict_on f Write lba count) else fails not_found None (Some BeyondDrive))

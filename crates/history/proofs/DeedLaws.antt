@@ -54,7 +54,7 @@ use Rattle.tcg_calls.specs.Named.{values_of}
 use Rattle.sp_cells.specs.Flat.{LookUp, sp_eq}
 use Rattle.tcg_calls.specs.declared.call_shapes.ask.Ask.{Ask}
 use Rattle.tcg_calls.specs.declared.call_shapes.ask.Ask.TheVariants.{GetCells, GetBytes, SetCells, SetBytes, Authenticate, Activate, Revert, GenKey, RevertSp, Next, GetAcl, Other, Random}
-use Rattle.history.specs.Events.{Deed, Nothing, InSession, OfQueue, Wrote, Trimmed, Took, BlockedSid, Chose, WasReset, Event}
+use Rattle.history.specs.Events.{Deed, Nothing, InSession, OfQueue, Wrote, Trimmed, Took, BlockedSid, Chose, PowerSet, WasReset, Event}
 use Rattle.sp_tables.specs.Looks.{RowLook}
 use Rattle.history.specs.Changes.{with_tries}
 use Rattle.history.specs.Readers.{view, tries, rows_within, rows_after, living, lives_by, restores, session_on, open_on, is_of, in_force, beside}
@@ -487,6 +487,7 @@ living-on sp (Trimmed extents) s h = cc
 living-on sp (Took c) s h = cc
 living-on sp (BlockedSid block) s h = cc
 living-on sp (Chose feature) s h = cc
+living-on sp (PowerSet in_standby) s h = cc
 
 session-step : (sp : Sp) (s : Begun) (e : Event) (es : List Event) (t : Option (Option Begun)) → living sp e.deed ≡ t → session_on (e ∷ es) sp ≡ Some s → (session_on es sp ≡ Some s → s.sp ≡ sp) → s.sp ≡ sp
 session-step sp s e es (Some x) is h before = living-on sp e.deed s (is ∙ ap (λ y. Some y) (sym (ap (λ o. unwrap_or o None) (latest-here (living sp) e es x is)) ∙ h))

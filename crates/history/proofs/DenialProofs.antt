@@ -54,7 +54,7 @@ use Rattle.trusted_cmds.specs.BlockSid.{is_block_sid, block_asked, is_blocked}
 use Rattle.device_data.specs.Discovery.{has_owner}
 use Rattle.history.specs.Events.{Nothing, Wrote, Took, HeldCommand, Event, did, WasReset, BlockedSid, ignores, Silent, InSession}
 use Rattle.history.specs.Facts.{Facts, session_named, has_open, standing}
-use Rattle.history.specs.Decisions.{not_found, fails, refuses, aborted, fails_queue, on_drive, verdict_on, queued_by, admitted, unqueued_by, is_trusted, is_session_com_id, discovery_com_id, received, while_failed, is_busy, completed_by, completed, resets, is_received, unreceived, asks_stack, are_on_drive, first_denial, trimmed_by, trimmed, ranges_in_force}
+use Rattle.history.specs.Decisions.{not_found, fails, refuses, aborted, fails_queue, on_drive, verdict_on, queued_by, admitted, unqueued_by, is_trusted, is_session_com_id, discovery_com_id, received, while_failed, is_busy, completed_by, completed, resets, is_received, unreceived, asks_stack, are_on_drive, first_denial, trimmed_by, trimmed, ranges_in_force, was_read}
 use Rattle.trusted_cmds.specs.declared.trim.Extent.{Extent}
 use Rattle.trusted_cmds.specs.Trims.{extents_in}
 use Rattle.history.specs.Tcg.{answers, breaks_off, broken_off, is_discarded, manager_event, start_verdict, started_by, started, is_method_of_manager, to_manager, judgement_on, begins_on, ends_on, in_session, is_manager, to_session, framed, sent, unqueued, known, commanded, tcg, command_read, item_in, blocks_sid, send_item, send, unsent, is_sent, properties_told, unframed, unframed_in, broken_of, sent_by, stack_reset, stack_kept, stack_sent, send_other}
@@ -82,20 +82,20 @@ moved f h payload c tag op lba count why (write_queued {lba = l} {count = n} {ta
     ∙ ap (λ b. (cond b (queued_by h t (WriteQueued l n) (verdict_on f Write l n)) (fails_queue (Some t) not_found h None (Some BeyondDrive))).denied) drive
     ∙ ap (λ x. (queued_by h t (WriteQueued l n) x).denied) v
 moved f h payload c tag op lba count why (read_dma {lba = l} {count = n}) free drive v =
-    ap (λ b. (cond b (unqueued_by Nothing (verdict_on f Read l n)) (fails not_found None (Some BeyondDrive))).denied) drive
-    ∙ ap (λ x. (unqueued_by Nothing x).denied) v
+    ap (λ b. (cond b (unqueued_by was_read (verdict_on f Read l n)) (fails not_found None (Some BeyondDrive))).denied) drive
+    ∙ ap (λ x. (unqueued_by was_read x).denied) v
 moved f h payload c tag op lba count why (write_dma {lba = l} {count = n}) free drive v =
     ap (λ b. (cond b (unqueued_by (Wrote l payload) (verdict_on f Write l n)) (fails not_found None (Some BeyondDrive))).denied) drive
     ∙ ap (λ x. (unqueued_by (Wrote l payload) x).denied) v
 moved f h payload c tag op lba count why (read_pio {lba = l} {count = n}) free drive v =
-    ap (λ b. (cond b (unqueued_by Nothing (verdict_on f Read l n)) (fails not_found None (Some BeyondDrive))).denied) drive
-    ∙ ap (λ x. (unqueued_by Nothing x).denied) v
+    ap (λ b. (cond b (unqueued_by was_read (verdict_on f Read l n)) (fails not_found None (Some BeyondDrive))).denied) drive
+    ∙ ap (λ x. (unqueued_by was_read x).denied) v
 moved f h payload c tag op lba count why (write_pio {lba = l} {count = n}) free drive v =
     ap (λ b. (cond b (unqueued_by (Wrote l payload) (verdict_on f Write l n)) (fails not_found None (Some BeyondDrive))).denied) drive
     ∙ ap (λ x. (unqueued_by (Wrote l payload) x).denied) v
 moved f h payload c tag op lba count why (verify {lba = l} {count = n}) free drive v =
-    ap (λ b. (cond b (unqueued_by Nothing (verdict_on f Read l n)) (fails not_found None (Some BeyondDrive))).denied) drive
-    ∙ ap (λ x. (unqueued_by Nothing x).denied) v
+    ap (λ b. (cond b (unqueued_by was_read (verdict_on f Read l n)) (fails not_found None (Some BeyondDrive))).denied) drive
+    ∙ ap (λ x. (unqueued_by was_read x).denied) v
 
 transfer-denied : (f : Facts) (act : Act) (why : Why) → TransferDenied f act why → (event_by f act).denied ≡ Some why
 transfer-denied f act why d =
@@ -497,7 +497,7 @@ trims-is f act why blocks looked h = by (are_on_drive f.config.sectors extents) 
     by false x on-is x-is g = absurd (nothing g)
 
 unqueued-is : (f : Facts) (act : Act) (why : Why) (command : Command) (looked : IsLookedAt f act command None) → (unqueued f looked.payload command).denied ≡ Some why → IsDenied f act why
-unqueued-is f act why (ReadDma l n) looked h = moves-is f act why (ReadDma l n) None looked Read l n read_dma tt (unqueued_by Nothing) (fails not_found None (Some BeyondDrive)) refl refl refl (λ w. refl) h
+unqueued-is f act why (ReadDma l n) looked h = moves-is f act why (ReadDma l n) None looked Read l n read_dma tt (unqueued_by was_read) (fails not_found None (Some BeyondDrive)) refl refl refl (λ w. refl) h
 unqueued-is f act why (WriteDma l n) looked h = moves-is f act why (WriteDma l n) None looked Write l n write_dma tt (unqueued_by (Wrote l looked.payload)) (fails not_found None (Some BeyondDrive)) refl refl refl (λ w. refl) h
 unqueued-is f act why (Send p c b d) looked h = by_reset (resets f.rows (Send p c b d)) h
   where
@@ -522,9 +522,9 @@ unqueued-is f act why (ReadLog10 d) looked h = absurd (nothing h)
 unqueued-is f act why Flush looked h = absurd (nothing h)
 unqueued-is f act why (SetFeatures feature) looked h = absurd (nothing h)
 unqueued-is f act why (ReadLog page dma) looked h = absurd (nothing h)
-unqueued-is f act why (ReadPio l n) looked h = moves-is f act why (ReadPio l n) None looked Read l n read_pio tt (unqueued_by Nothing) (fails not_found None (Some BeyondDrive)) refl refl refl (λ w. refl) h
+unqueued-is f act why (ReadPio l n) looked h = moves-is f act why (ReadPio l n) None looked Read l n read_pio tt (unqueued_by was_read) (fails not_found None (Some BeyondDrive)) refl refl refl (λ w. refl) h
 unqueued-is f act why (WritePio l n) looked h = moves-is f act why (WritePio l n) None looked Write l n write_pio tt (unqueued_by (Wrote l looked.payload)) (fails not_found None (Some BeyondDrive)) refl refl refl (λ w. refl) h
-unqueued-is f act why (Verify l n) looked h = moves-is f act why (Verify l n) None looked Read l n verify tt (unqueued_by Nothing) (fails not_found None (Some BeyondDrive)) refl refl refl (λ w. refl) h
+unqueued-is f act why (Verify l n) looked h = moves-is f act why (Verify l n) None looked Read l n verify tt (unqueued_by was_read) (fails not_found None (Some BeyondDrive)) refl refl refl (λ w. refl) h
 unqueued-is f act why (Trim blocks) looked h = trims-is f act why blocks looked h
 unqueued-is f act why (Control control) looked h = absurd (nothing h)
 

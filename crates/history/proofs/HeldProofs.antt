@@ -11,6 +11,7 @@ use Rattle.trusted_cmds.specs.Commands.{is_queued, tag_of, sector_size}
 use Rattle.history.specs.Opening.{Origin}
 use Rattle.trusted_cmds.specs.declared.command.Command.{Command}
 use Rattle.trusted_cmds.specs.declared.command.Command.TheVariants.{ReadQueued, WriteQueued, ReadDma, WriteDma, Send, Receive, Identify, ReadLog10, Flush, SetFeatures, ReadLog, ReadPio, WritePio, Verify, Trim, Control}
+use Rattle.trusted_cmds.specs.declared.control.Control.TheVariants.{SetMultiple, Idle, Standby, CheckPowerMode, Diagnose}
 use Rattle.trusted_cmds.specs.declared.command.CommandError.{CommandError}
 use Rattle.trusted_cmds.specs.Commands.{fault_of, read_unless}
 use Rattle.locking.specs.declared.ranges.Verdict.{Verdict}
@@ -18,10 +19,10 @@ use Rattle.locking.specs.declared.ranges.Verdict.TheVariants.{Serve, Shadow, Den
 use Rattle.device_data.specs.declared.log_page.Failure.{Failure}
 use Rattle.history.proofs.TrimProofs.{trimmed-has}
 use Rattle.trusted_cmds.specs.Trims.{extents_in}
-use Rattle.history.specs.Events.{HeldCommand, Held, Completed, CompletedWrite, QueueFailed, QueueMended, QueueEnded, Deed, Nothing, InSession, OfQueue, Wrote, Trimmed, Took, BlockedSid, Chose, WasReset, Event, did, Silent}
+use Rattle.history.specs.Events.{HeldCommand, Held, Completed, CompletedWrite, QueueFailed, QueueMended, QueueEnded, Deed, Nothing, InSession, OfQueue, Wrote, Trimmed, Took, BlockedSid, Chose, PowerSet, WasReset, Event, did, Silent}
 use Rattle.history.specs.Readers.{holding, held}
 use Rattle.history.specs.Facts.{Facts, facts}
-use Rattle.history.specs.Decisions.{not_found, aborted, fails, refuses, fails_queue, on_drive, ranges_in_force, verdict_on, queued_by, admitted, unqueued_by, is_trusted, is_session_com_id, discovery_com_id, received, while_failed, is_busy, completed_by, completed, resets, unqueued_of, known_of, commanded_of, is_received, unreceived, asks_stack, receive_other}
+use Rattle.history.specs.Decisions.{not_found, aborted, fails, refuses, fails_queue, on_drive, ranges_in_force, verdict_on, queued_by, admitted, unqueued_by, is_trusted, is_session_com_id, discovery_com_id, received, while_failed, is_busy, completed_by, completed, resets, unqueued_of, known_of, commanded_of, is_received, unreceived, asks_stack, receive_other, was_read}
 use Rattle.history.specs.Items.{Items}
 use Rattle.history.specs.Quiet.{IsQuiet, ReadsTags}
 use Rattle.history.specs.Answers.{is_holding}
@@ -69,6 +70,7 @@ holds-is tag (Trimmed extents) h g = cc
 holds-is tag (Took c) h g = cc
 holds-is tag (BlockedSid block) h g = cc
 holds-is tag (Chose feature) h g = cc
+holds-is tag (PowerSet in_standby) h g = cc
 holds-is tag (WasReset kind) h g = cc
 
 -- what is not queued holds nothing
@@ -86,16 +88,21 @@ received-none com_id blocks None = refl
 received-none com_id blocks (Some r) = none-if (nat_le (length r) (sector_size * blocks)) (did (Took com_id)) (did Nothing) refl refl
 
 unqueued-none : (items : Items) (still : IsQuiet items) (f : Facts) (payload : List ℕ) (c : Command) → is_holding (unqueued_of items f payload c).deed ≡ false
-unqueued-none items still f payload (ReadDma l n) = none-if (on_drive f l n) (unqueued_by Nothing (verdict_on f Read l n)) (fails not_found None (Some BeyondDrive)) (unqueued_by-none Nothing (verdict_on f Read l n) refl) refl
+unqueued-none items still f payload (ReadDma l n) = none-if (on_drive f l n) (unqueued_by was_read (verdict_on f Read l n)) (fails not_found None (Some BeyondDrive)) (unqueued_by-none was_read (verdict_on f Read l n) refl) refl
 unqueued-none items still f payload (WriteDma l n) = none-if (on_drive f l n) (unqueued_by (Wrote l payload) (verdict_on f Write l n)) (fails not_found None (Some BeyondDrive)) (unqueued_by-none (Wrote l payload) (verdict_on f Write l n) refl) refl
 unqueued-none items still f payload (Send p c b d) =
     none-if (resets f.rows (Send p c b d)) (did (WasReset programmatic)) (items.sends f p c b payload) refl
     (quiet-none (items.sends f p c b payload).deed (still f p c b payload))
 unqueued-none items still f payload (Receive p c b d) = none-if (asks_stack f.config.profile p c b) (did (InSession (StackTold c) Silent)) (receive_other f p c b) refl (none-if (is_received f p c b) (received c b (f.waiting c)) (refuses (unreceived p b)) (received-none c b (f.waiting c)) refl)
-unqueued-none items still f payload (ReadPio l n) = none-if (on_drive f l n) (unqueued_by Nothing (verdict_on f Read l n)) (fails not_found None (Some BeyondDrive)) (unqueued_by-none Nothing (verdict_on f Read l n) refl) refl
+unqueued-none items still f payload (ReadPio l n) = none-if (on_drive f l n) (unqueued_by was_read (verdict_on f Read l n)) (fails not_found None (Some BeyondDrive)) (unqueued_by-none was_read (verdict_on f Read l n) refl) refl
 unqueued-none items still f payload (WritePio l n) = none-if (on_drive f l n) (unqueued_by (Wrote l payload) (verdict_on f Write l n)) (fails not_found None (Some BeyondDrive)) (unqueued_by-none (Wrote l payload) (verdict_on f Write l n) refl) refl
-unqueued-none items still f payload (Verify l n) = none-if (on_drive f l n) (unqueued_by Nothing (verdict_on f Read l n)) (fails not_found None (Some BeyondDrive)) (unqueued_by-none Nothing (verdict_on f Read l n) refl) refl
+unqueued-none items still f payload (Verify l n) = none-if (on_drive f l n) (unqueued_by was_read (verdict_on f Read l n)) (fails not_found None (Some BeyondDrive)) (unqueued_by-none was_read (verdict_on f Read l n) refl) refl
 unqueued-none items still f payload (Trim blocks) = trimmed-has (λ e. is_holding e.deed ≡ false) f (extents_in payload) refl (λ why. refl) refl
+unqueued-none items still f payload (Control SetMultiple) = refl
+unqueued-none items still f payload (Control Idle) = refl
+unqueued-none items still f payload (Control Standby) = refl
+unqueued-none items still f payload (Control CheckPowerMode) = refl
+unqueued-none items still f payload (Control Diagnose) = refl
 unqueued-none items still f payload _ = refl
 
 -- an act that holds a command

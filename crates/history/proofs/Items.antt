@@ -17,7 +17,8 @@ use Rattle.tcg_tokens.specs.declared.error.TokenError.{TokenError}
 use Rattle.tcg_tokens.specs.Message.{Message, end_session}
 use Rattle.tcg_tokens.specs.Reading.{reading as message_in}
 use Rattle.trusted_cmds.specs.declared.command.Command.{Command}
-use Rattle.trusted_cmds.specs.declared.command.Command.TheVariants.{ReadQueued, WriteQueued, ReadDma, WriteDma, Send, Receive, ReadLog10, ReadPio, WritePio, Verify, Trim}
+use Rattle.trusted_cmds.specs.declared.command.Command.TheVariants.{ReadQueued, WriteQueued, ReadDma, WriteDma, Send, Receive, ReadLog10, ReadPio, WritePio, Verify, Trim, Control}
+use Rattle.trusted_cmds.specs.declared.control.Control.TheVariants.{SetMultiple, Idle, Standby, CheckPowerMode, Diagnose}
 use Rattle.trusted_cmds.specs.declared.command.CommandError.{CommandError}
 use Rattle.locking.specs.declared.ranges.Verdict.{Verdict}
 use Rattle.locking.specs.declared.ranges.Verdict.TheVariants.{Serve, Shadow, Denied}
@@ -28,7 +29,7 @@ use Rattle.history.proofs.TrimProofs.{trimmed-has}
 use Rattle.trusted_cmds.specs.Trims.{extents_in}
 use Rattle.history.specs.Events.{Response, Silent, Dropped, HeldCommand, Deed, Nothing, InSession, Wrote, Event, or_else, WasReset, did, ignores, BlockedSid}
 use Rattle.history.specs.Facts.{Facts, is_named, if_named, session_named, is_on_com_id}
-use Rattle.history.specs.Decisions.{aborted, not_found, fails, refuses, fails_queue, on_drive, verdict_on, queued_by, queued_transfer, admitted, unqueued_by, unqueued_transfer, is_trusted, is_session_com_id, discovery_com_id, received, while_failed, is_busy, completed_by, completed, resets, asks_stack, is_received, unreceived}
+use Rattle.history.specs.Decisions.{aborted, not_found, fails, refuses, fails_queue, on_drive, verdict_on, queued_by, queued_transfer, admitted, unqueued_by, unqueued_transfer, is_trusted, is_session_com_id, discovery_com_id, received, while_failed, is_busy, completed_by, completed, resets, asks_stack, is_received, unreceived, was_read}
 use Rattle.history.specs.Tcg.{answers, to_manager, in_session, is_manager, breaks_off, broken_off, is_discarded, to_session, framed, unframed_in, unframed, broken_of, sent_by, stack_reset, stack_kept, stack_sent, unqueued, known, commanded, command_read, item_in, blocks_sid, unsent, is_sent}
 use Rattle.history.specs.History.{Act, Accept, Complete, Reset, SoftwareReset, event_by}
 use Rattle.sp_cells.specs.Resets.{programmatic}
@@ -146,7 +147,7 @@ transfer-comes : (f : Facts) (d : Deed) (op : Op) (lba count : ℕ) → is_item 
 transfer-comes f d op lba count h = either f (on_drive f lba count) _ (fails not_found None (Some BeyondDrive)) (unqueued_by-comes f d (verdict_on f op lba count) h) (no_item refl)
 
 unqueued-comes : (f : Facts) (payload : List ℕ) (c : Command) → Comes f (unqueued f payload c)
-unqueued-comes f payload (ReadDma lba count) = transfer-comes f Nothing Read lba count refl
+unqueued-comes f payload (ReadDma lba count) = transfer-comes f was_read Read lba count refl
 unqueued-comes f payload (WriteDma lba count) = transfer-comes f (Wrote lba payload) Write lba count refl
 unqueued-comes f payload (Send protocol com_id blocks dma) =
     either f (resets f.rows (Send protocol com_id blocks dma)) (did (WasReset programmatic)) _ (no_item refl)
@@ -158,10 +159,15 @@ unqueued-comes f payload (Send protocol com_id blocks dma) =
 unqueued-comes f payload (Receive protocol com_id blocks dma) =
     either f (asks_stack f.config.profile protocol com_id blocks) (did (InSession (StackTold com_id) Silent)) _ (of_stack f com_id false _ Silent refl)
     (either f (is_received f protocol com_id blocks) _ (refuses (unreceived protocol blocks)) (received-comes f com_id blocks (f.waiting com_id)) (no_item refl))
-unqueued-comes f payload (ReadPio lba count) = transfer-comes f Nothing Read lba count refl
+unqueued-comes f payload (ReadPio lba count) = transfer-comes f was_read Read lba count refl
 unqueued-comes f payload (WritePio lba count) = transfer-comes f (Wrote lba payload) Write lba count refl
-unqueued-comes f payload (Verify lba count) = transfer-comes f Nothing Read lba count refl
+unqueued-comes f payload (Verify lba count) = transfer-comes f was_read Read lba count refl
 unqueued-comes f payload (Trim blocks) = trimmed-has (Comes f) f (extents_in payload) (no_item refl) (λ why. no_item refl) (no_item refl)
+unqueued-comes f payload (Control SetMultiple) = no_item refl
+unqueued-comes f payload (Control Idle) = no_item refl
+unqueued-comes f payload (Control Standby) = no_item refl
+unqueued-comes f payload (Control CheckPowerMode) = no_item refl
+unqueued-comes f payload (Control Diagnose) = no_item refl
 unqueued-comes f payload _ = no_item refl
 
 queued_by-comes : (f : Facts) (h : RegH2d) (tag : ℕ) (c : Command) (v : Verdict) → Comes f (queued_by h tag c v)

@@ -5,7 +5,7 @@ use Rattle.sp_cells.specs.declared.names.Sp.TheVariants.{Admin, Locking}
 use Rattle.sp_cells.specs.Flat.{sp_eq}
 use Rattle.sessions.specs.Live.{Live, session_at, unless_on, unless_ending}
 use Rattle.sessions.specs.Made.{ended_by, LeavesAll}
-use Rattle.history.specs.Events.{Deed, Nothing, InSession, OfQueue, Wrote, Trimmed, Took, BlockedSid, Chose, WasReset, Event}
+use Rattle.history.specs.Events.{Deed, Nothing, InSession, OfQueue, Wrote, Trimmed, Took, BlockedSid, Chose, PowerSet, WasReset, Event}
 use Rattle.sessions.specs.Deeds.{Unchanged, Started, Tried, Changed, Began, Committed, Aborted, Ended, Activated, Reverted, Erased, Drew, HostTold, StackReset, StackTold}
 use Rattle.history.specs.Readers.{is_start, living, restores, starts, gains}
 use Rattle.history.specs.KeptSessions.{KeepsSessions, LivesBy, SessionsOpeningLaw, SessionsLaw}
@@ -85,3 +85,4 @@ sessions_law past e l m k lives = by_deed e.deed refl lives
     by_deed (Took com_id) is v = spared-kept e past l m (Took com_id) is (record { turns = λ s. refl; starts_none = λ s. refl; gains_none = λ s. refl; is_no_start = refl }) k v
     by_deed (BlockedSid block) is v = spared-kept e past l m (BlockedSid block) is (record { turns = λ s. refl; starts_none = λ s. refl; gains_none = λ s. refl; is_no_start = refl }) k v
     by_deed (Chose feature) is v = spared-kept e past l m (Chose feature) is (record { turns = λ s. refl; starts_none = λ s. refl; gains_none = λ s. refl; is_no_start = refl }) k v
+    by_deed (PowerSet in_standby) is v = spared-kept e past l m (PowerSet in_standby) is (record { turns = λ s. refl; starts_none = λ s. refl; gains_none = λ s. refl; is_no_start = refl }) k v

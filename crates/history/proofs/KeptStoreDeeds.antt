@@ -33,7 +33,7 @@ use Rattle.sessions.specs.Deeds.{Setting, cells_set, bytes_set, Sets, Restores, 
 use Rattle.sessions.specs.Made.{part_with, StoresChange, closed_if, closed_where, with_count, CanSet}
 use Rattle.history.specs.Opening.{Origin, factory_origin}
 use Rattle.history.specs.Changes.{byte_in, reset_rows}
-use Rattle.history.specs.Events.{Response, Deed, Nothing, InSession, OfQueue, Wrote, Trimmed, Took, BlockedSid, Chose, WasReset, Event}
+use Rattle.history.specs.Events.{Response, Deed, Nothing, InSession, OfQueue, Wrote, Trimmed, Took, BlockedSid, Chose, PowerSet, WasReset, Event}
 use Rattle.history.specs.Readers.{begins, turns, changes_on, brought, changes, factory_rows, open_on, rows_after, tries, one_more, same_row}
 use Rattle.history.specs.KeptStore.{HasKnownRows, KeepsPart, KeepsBytes, KeepsStore, StoresBy, StoreLaw}
 use Rattle.history.proofs.Steps.{rows-by, turned}
@@ -366,6 +366,7 @@ deed-kept s t o past x w (Trimmed extents) h by = keep-as s t o _ by (left s o (
 deed-kept s t o past x w (Took com_id) h by = keep-as s t o _ by (left s o (doing x w (Took com_id)) past h (λ sp. record { turn = refl; start = refl; change = refl; bring = refl }) (λ sp u. refl))
 deed-kept s t o past x w (BlockedSid block) h by = keep-as s t o _ by (left s o (doing x w (BlockedSid block)) past h (λ sp. record { turn = refl; start = refl; change = refl; bring = refl }) (λ sp u. refl))
 deed-kept s t o past x w (Chose feature) h by = keep-as s t o _ by (left s o (doing x w (Chose feature)) past h (λ sp. record { turn = refl; start = refl; change = refl; bring = refl }) (λ sp u. refl))
+deed-kept s t o past x w (PowerSet in_standby) h by = keep-as s t o _ by (left s o (doing x w (PowerSet in_standby)) past h (λ sp. record { turn = refl; start = refl; change = refl; bring = refl }) (λ sp u. refl))
 deed-kept s t o past x w (InSession Unchanged r) h by = keep-as s t o _ by (left s o (doing x w (InSession Unchanged r)) past h (λ sp. record { turn = refl; start = refl; change = refl; bring = refl }) (λ sp u. refl))
 deed-kept s t o past x w (InSession (Started session row) r) h by = keep-as _ t o _ by (started-kept s o past x w session row r h)
 deed-kept s t o past x w (InSession (Tried a) r) h by = tried-kept s t o past x w a r a.failure refl h by

@@ -23,7 +23,7 @@ use Rattle.transactions.specs.Resets.{is_range, locks_seen}
 use Rattle.sessions.specs.Deeds.{cells_set, bytes_set, Change, Sets, Restores, Resets, Begun, SessionDeed, Unchanged, Started, Tried, Changed, Began, Committed, Aborted, Ended, Activated, Reverted, Erased, Drew, HostTold, StackReset, StackTold}
 use Rattle.history.specs.Changes.{reset_rows, apply, apply_all}
 use Rattle.sessions.specs.Starts.{is_in_use}
-use Rattle.history.specs.Events.{Response, Deed, Nothing, InSession, OfQueue, Wrote, Trimmed, Took, BlockedSid, Chose, WasReset, Event}
+use Rattle.history.specs.Events.{Response, Deed, Nothing, InSession, OfQueue, Wrote, Trimmed, Took, BlockedSid, Chose, PowerSet, WasReset, Event}
 use Rattle.history.specs.Readers.{restores, living, session_on, open_on, is_of, in_force, turns, begins, changes_on, own_changes, if_open, open_changes, only_on, unless_any_open, brought, changes, factory_rows}
 use Rattle.history.specs.History.{Act, event, log}
 use Rattle.history.specs.Deeds.{IsNew, is_set_on_each, is_set_on_opal, is_set_in_admin, is_of_row, Begins, Changes, IsOutside, IsRevert, IsRevertSp, CanDo, OwnerLaw, LifeLaw, ActivateLaw, RevertLaw}
@@ -81,6 +81,7 @@ began-is sp (Trimmed extents) n h = cc
 began-is sp (Took c) n h = cc
 began-is sp (BlockedSid block) n h = cc
 began-is sp (Chose feature) n h = cc
+began-is sp (PowerSet in_standby) n h = cc
 began-is sp (WasReset kind) n h = cc
 
 record StartedOn (sp : Sp) (d : Deed) : Type 0 where
@@ -127,6 +128,7 @@ start-is sp (Trimmed extents) x h g = cc
 start-is sp (Took c) x h g = cc
 start-is sp (BlockedSid block) x h g = cc
 start-is sp (Chose feature) x h g = cc
+start-is sp (PowerSet in_standby) x h g = cc
 
 -- what brings a session is a start
 begun-is : (sp : Sp) (d : Deed) (s : Begun) → living sp d ≡ Some (Some s) → StartedOn sp d
@@ -169,6 +171,7 @@ begun-is sp (Trimmed extents) s h = cc
 begun-is sp (Took c) s h = cc
 begun-is sp (BlockedSid block) s h = cc
 begun-is sp (Chose feature) s h = cc
+begun-is sp (PowerSet in_standby) s h = cc
 
 -- it leaves the state of the Locking SP
 abbrev spares : Change → Bool
@@ -220,6 +223,7 @@ changed-is sp (Trimmed extents) c h = cc
 changed-is sp (Took x) c h = cc
 changed-is sp (BlockedSid block) c h = cc
 changed-is sp (Chose feature) c h = cc
+changed-is sp (PowerSet in_standby) c h = cc
 changed-is sp (WasReset kind) c h = cc
 
 -- what each past of acts keeps
@@ -372,6 +376,7 @@ brought-spare o es (Trimmed extents) can own h = refl
 brought-spare o es (Took x) can own h = refl
 brought-spare o es (BlockedSid block) can own h = refl
 brought-spare o es (Chose feature) can own h = refl
+brought-spare o es (PowerSet in_standby) can own h = refl
 brought-spare o es (WasReset kind) can own h = refl
 
 -- an Activate that takes effect, or a Revert, by the session of the Locking SP
@@ -399,6 +404,7 @@ activation-is (Trimmed extents) h = cc
 activation-is (Took x) h = cc
 activation-is (BlockedSid block) h = cc
 activation-is (Chose feature) h = cc
+activation-is (PowerSet in_standby) h = cc
 activation-is (WasReset kind) h = cc
 
 clash-bool : {b : Bool} → b ≡ true → b ≡ false → ⊥

@@ -10,7 +10,7 @@ use Rattle.trusted_cmds.specs.declared.command.Command.TheVariants.{Send}
 use Rattle.trusted_cmds.specs.BlockSid.{is_block_sid, block_asked, is_blocked}
 use Rattle.device_data.specs.Discovery.{has_owner}
 use Rattle.history.specs.Answers.{is_holding}
-use Rattle.history.specs.Events.{Deed, Nothing, InSession, OfQueue, Wrote, Trimmed, Took, BlockedSid, Chose, WasReset, Event, did, ignores}
+use Rattle.history.specs.Events.{Deed, Nothing, InSession, OfQueue, Wrote, Trimmed, Took, BlockedSid, Chose, PowerSet, WasReset, Event, did, ignores}
 use Rattle.history.specs.Facts.{Facts, session_named}
 use Rattle.history.specs.Decisions.{refuses, is_trusted, is_session_com_id, asks_stack}
 use Rattle.history.specs.Tcg.{answers, to_manager, in_session, item_in, breaks_off, broken_off, is_discarded, manager_event, is_manager, to_session, framed, sent, tcg, blocks_sid, send_item, unsent, is_sent, unframed, unframed_in, broken_of, sent_by, stack_reset, stack_kept, stack_sent, send_other}
@@ -60,4 +60,5 @@ quiet-none (Trimmed extents) h = refl
 quiet-none (Took com_id) h = refl
 quiet-none (BlockedSid block) h = refl
 quiet-none (Chose feature) h = refl
+quiet-none (PowerSet in_standby) h = refl
 quiet-none (WasReset kind) h = refl

@@ -12,7 +12,8 @@ use Rattle.compacket.specs.declared.error.FrameError.{FrameError}
 use Rattle.compacket.specs.Frames.{Frame, reading as frame_in}
 use Rattle.tcg_tokens.specs.Reading.{reading as message_in}
 use Rattle.trusted_cmds.specs.declared.command.Command.{Command}
-use Rattle.trusted_cmds.specs.declared.command.Command.TheVariants.{ReadQueued, WriteQueued, ReadDma, WriteDma, Send, Receive, ReadLog10, ReadPio, WritePio, Verify, Trim}
+use Rattle.trusted_cmds.specs.declared.command.Command.TheVariants.{ReadQueued, WriteQueued, ReadDma, WriteDma, Send, Receive, ReadLog10, ReadPio, WritePio, Verify, Trim, Control}
+use Rattle.trusted_cmds.specs.declared.control.Control.TheVariants.{SetMultiple, Idle, Standby, CheckPowerMode, Diagnose}
 use Rattle.trusted_cmds.specs.declared.command.CommandError.{CommandError}
 use Rattle.locking.specs.declared.ranges.Verdict.{Verdict}
 use Rattle.locking.specs.declared.ranges.Verdict.TheVariants.{Serve, Shadow, Denied}
@@ -21,9 +22,9 @@ use Rattle.trusted_cmds.specs.BlockSid.{is_block_sid, block_asked, is_blocked}
 use Rattle.device_data.specs.Discovery.{has_owner}
 use Rattle.history.proofs.TrimProofs.{trimmed-has}
 use Rattle.trusted_cmds.specs.Trims.{extents_in}
-use Rattle.history.specs.Events.{did, HeldCommand, Deed, Nothing, InSession, Left, Silent, Wrote, Trimmed, Event, or_else, OfQueue, Took, BlockedSid, Chose, WasReset, latest, ignores, Dropped}
+use Rattle.history.specs.Events.{did, HeldCommand, Deed, Nothing, InSession, Left, Silent, Wrote, Trimmed, Event, or_else, OfQueue, Took, BlockedSid, Chose, PowerSet, WasReset, latest, ignores, Dropped}
 use Rattle.history.specs.Facts.{Facts, facts, session_named}
-use Rattle.history.specs.Decisions.{aborted, not_found, fails, refuses, fails_queue, on_drive, verdict_on, queued_by, queued_transfer, admitted, unqueued_by, unqueued_transfer, is_trusted, is_session_com_id, discovery_com_id, received, while_failed, is_busy, completed_by, completed, resets, is_received, unreceived, asks_stack}
+use Rattle.history.specs.Decisions.{aborted, not_found, fails, refuses, fails_queue, on_drive, verdict_on, queued_by, queued_transfer, admitted, unqueued_by, unqueued_transfer, is_trusted, is_session_com_id, discovery_com_id, received, while_failed, is_busy, completed_by, completed, resets, is_received, unreceived, asks_stack, was_read}
 use Rattle.history.specs.Tcg.{answers, to_manager, in_session, item_in, breaks_off, broken_off, is_discarded, manager_event, is_manager, to_session, framed, sent, unqueued, known, commanded, command_read, blocks_sid, unsent, is_sent, is_free_for, unframed, unframed_in, broken_of, sent_by, stack_reset, stack_kept, stack_sent}
 use Rattle.history.specs.History.{Act, Accept, Complete, Reset, SoftwareReset, event_by, event, log}
 use Rattle.history.specs.Readers.{waits, waiting}
@@ -82,7 +83,7 @@ transfer-on : (f : Facts) (d : Deed) (op : Op) (lba count : ℕ) → on_session 
 transfer-on f d op lba count h = either (on_drive f lba count) _ (fails not_found None (Some BeyondDrive)) (λ is. unqueued_by-on d (verdict_on f op lba count) h) refl
 
 unqueued-on : (f : Facts) (payload : List ℕ) (c : Command) → on_session (unqueued f payload c).deed ≡ true
-unqueued-on f payload (ReadDma lba count) = transfer-on f Nothing Read lba count refl
+unqueued-on f payload (ReadDma lba count) = transfer-on f was_read Read lba count refl
 unqueued-on f payload (WriteDma lba count) = transfer-on f (Wrote lba payload) Write lba count refl
 unqueued-on f payload (Send protocol com_id blocks dma) =
     either (resets f.rows (Send protocol com_id blocks dma)) (did (WasReset programmatic)) _ (λ is. refl)
@@ -94,10 +95,15 @@ unqueued-on f payload (Send protocol com_id blocks dma) =
 unqueued-on f payload (Receive protocol com_id blocks dma) =
     either (asks_stack f.config.profile protocol com_id blocks) (did (InSession (StackTold com_id) Silent)) _ (λ is. refl)
     (either (is_received f protocol com_id blocks) _ (refuses (unreceived protocol blocks)) (λ is. received-on com_id blocks (f.waiting com_id)) refl)
-unqueued-on f payload (ReadPio lba count) = transfer-on f Nothing Read lba count refl
+unqueued-on f payload (ReadPio lba count) = transfer-on f was_read Read lba count refl
 unqueued-on f payload (WritePio lba count) = transfer-on f (Wrote lba payload) Write lba count refl
-unqueued-on f payload (Verify lba count) = transfer-on f Nothing Read lba count refl
+unqueued-on f payload (Verify lba count) = transfer-on f was_read Read lba count refl
 unqueued-on f payload (Trim blocks) = trimmed-has (λ e. on_session e.deed ≡ true) f (extents_in payload) refl (λ why. refl) refl
+unqueued-on f payload (Control SetMultiple) = refl
+unqueued-on f payload (Control Idle) = refl
+unqueued-on f payload (Control Standby) = refl
+unqueued-on f payload (Control CheckPowerMode) = refl
+unqueued-on f payload (Control Diagnose) = refl
 unqueued-on f payload _ = refl
 
 queued_by-on : (h : RegH2d) (tag : ℕ) (c : Command) (v : Verdict) → on_session (queued_by h tag c v).deed ≡ true
@@ -168,6 +174,7 @@ left-none com_id (InSession deed (Dropped its)) past other on h = taken com_id i
 left-none com_id (Took its) past other on h = taken com_id its past (its == com_id) h
 left-none com_id (BlockedSid block) past other on h = h
 left-none com_id (Chose feature) past other on h = h
+left-none com_id (PowerSet in_standby) past other on h = h
 left-none com_id (WasReset kind) past other on h = refl
 left-none com_id Nothing past other on h = h
 left-none com_id (OfQueue d) past other on h = h

@@ -25,7 +25,7 @@ use Rattle.history.specs.Opening.{Origin, activated_origin, with_range}
 use Rattle.history.specs.Readers.{sector}
 use Rattle.history.specs.Facts.{facts}
 use Rattle.history.specs.Tcg.{accepted_data, accepted_fises}
-use Rattle.history.specs.History.{Act, Accept, event, log}
+use Rattle.history.specs.History.{Act, Accept, Reset, SoftwareReset, event, log}
 use Rattle.history.proofs.Scripts.{config, range_row, fis, dwrite, whys, fails_with, rules_met}
 
 -- Drives in use, range 1 over the sectors 100 to 109: open, locked for reading, locked for writing.
@@ -104,15 +104,35 @@ write_answers : (answer in_use (fis 0x34 0 5 1) (replicate 512 0xaa) ≡ pio fal
     × (sector_after in_use (write 4 2 0xaa ∷ []) 5 ≡ replicate 512 0xaa)
     × (answer in_use (fis 0x3d 0 5 1) (replicate 512 0xaa) ≡ register 0x50 0 0 0 ∷ [])
     × (sector_after in_use (Accept (fis 0x3d 0 5 1) (replicate 512 0xaa) ∷ []) 5 ≡ replicate 512 0xaa)
+    × (answer in_use (fis 0xce 0 5 1) (replicate 512 0xaa) ≡ pio false 0xd0 ∷ register 0x50 0 0 0 ∷ [])
+    × (sector_after in_use (Accept (fis 0xce 0 5 1) (replicate 512 0xaa) ∷ []) 5 ≡ replicate 512 0xaa)
 unfolding label_authorities opal_authorities opal_pins opal_admin_aces admin_constants label_pins label_aces removal_aces data_removals datastore_aces gen_key_aces opal_locking_aces locking_constants range_keys locking_infos byte_tables label_grants removal_grants datastore_grants gen_key_ace_grants info_grants key_grants admin_sps admin_authorities locking_authorities admin_pins locking_pins locking_ranges locking_mbr_controls admin_aces authority_aces pin_aces range_get_aces range_aces mbr_aces this_sp_grants owner_grants authority_grants fixed_ace_gets user_ace_grants read_locked_ace_grants write_locked_ace_grants done_ace_grants pin_grants range_get_ace_grants range_get_grants range_set_grants mbr_grants first_lexeme expect number_at uid_at values_up_to list_with list_value_with named_with value_after_token list_at status_at call_at reply_at message_at message_in number_spelling bytes_spelling any_below ranges_in verdict_of is_range listed_among cells_for zeros sectors_from authorities_of_locking any_to own_grants listed_grants told_grants method_grants maker_grants name_grants mode_grants listed_tables
-write_answers = (refl, refl, refl, refl)
+write_answers = (refl, refl, refl, refl, refl, refl)
 
--- The drive is active, and passes its own tests; the other commands answer by the plain FIS.
+-- A new drive is active, and passes its own tests; the other commands answer by the plain FIS.
 controls : (answer in_use (fis 0xe5 0 0 0) [] ≡ register 0x50 0 0 0xff ∷ []) × (answer in_use (fis 0x90 0 0 0) [] ≡ register 0x50 0x01 1 1 ∷ [])
     × (answer in_use (fis 0xc6 0 0 1) [] ++ answer in_use (fis 0xe1 0 0 0) [] ++ answer in_use (fis 0xe3 0 0 5) [] ≡
     register 0x50 0 0 0 ∷ register 0x50 0 0 0 ∷ register 0x50 0 0 0 ∷ [])
 unfolding label_authorities opal_authorities opal_pins opal_admin_aces admin_constants label_pins label_aces removal_aces data_removals datastore_aces gen_key_aces opal_locking_aces locking_constants range_keys locking_infos byte_tables label_grants removal_grants datastore_grants gen_key_ace_grants info_grants key_grants admin_sps admin_authorities locking_authorities admin_pins locking_pins locking_ranges locking_mbr_controls admin_aces authority_aces pin_aces range_get_aces range_aces mbr_aces this_sp_grants owner_grants authority_grants fixed_ace_gets user_ace_grants read_locked_ace_grants write_locked_ace_grants done_ace_grants pin_grants range_get_ace_grants range_get_grants range_set_grants mbr_grants first_lexeme expect number_at uid_at values_up_to list_with list_value_with named_with value_after_token list_at status_at call_at reply_at message_at message_in number_spelling bytes_spelling any_below ranges_in verdict_of is_range listed_among cells_for zeros sectors_from authorities_of_locking any_to own_grants listed_grants told_grants method_grants maker_grants name_grants mode_grants listed_tables
 controls = (refl, refl, refl)
+
+-- In standby CHECK POWER MODE tells 00h. What reads or writes sectors makes the drive active, and so does IDLE; what is denied does
+-- not, nor does a software reset. A hardware reset does.
+abbrev power_after : Origin → List Act → List Fis
+power_after o before = answer_after o before (fis 0xe5 0 0 0) []
+
+abbrev standby : Act
+standby = Accept (fis 0xe0 0 0 0) []
+
+standbys : (power_after in_use (standby ∷ []) ++ power_after in_use (Accept (fis 0xe2 0 0 5) [] ∷ []) ++ power_after in_use (Accept (fis 0xe6 0 0 0) [] ∷ []) ≡
+    register 0x50 0 0 0 ∷ register 0x50 0 0 0 ∷ register 0x50 0 0 0 ∷ [])
+    × (power_after in_use (standby ∷ Accept (fis 0xe1 0 0 0) [] ∷ []) ++ power_after in_use (standby ∷ read 5 1 ∷ []) ++ power_after in_use (standby ∷ checks 5 1 ∷ [])
+    ≡ register 0x50 0 0 0xff ∷ register 0x50 0 0 0xff ∷ register 0x50 0 0 0xff ∷ [])
+    × (power_after in_use (standby ∷ write 5 1 0xaa ∷ []) ≡ register 0x50 0 0 0xff ∷ [])
+    × (power_after read_locked (standby ∷ read 100 1 ∷ []) ++ power_after in_use (standby ∷ SoftwareReset ∷ []) ≡ register 0x50 0 0 0 ∷ register 0x50 0 0 0 ∷ [])
+    × (power_after in_use (standby ∷ Reset 1 ∷ []) ≡ register 0x50 0 0 0xff ∷ [])
+unfolding label_authorities opal_authorities opal_pins opal_admin_aces admin_constants label_pins label_aces removal_aces data_removals datastore_aces gen_key_aces opal_locking_aces locking_constants range_keys locking_infos byte_tables label_grants removal_grants datastore_grants gen_key_ace_grants info_grants key_grants admin_sps admin_authorities locking_authorities admin_pins locking_pins locking_ranges locking_mbr_controls admin_aces authority_aces pin_aces range_get_aces range_aces mbr_aces this_sp_grants owner_grants authority_grants fixed_ace_gets user_ace_grants read_locked_ace_grants write_locked_ace_grants done_ace_grants pin_grants range_get_ace_grants range_get_grants range_set_grants mbr_grants first_lexeme expect number_at uid_at values_up_to list_with list_value_with named_with value_after_token list_at status_at call_at reply_at message_at message_in number_spelling bytes_spelling any_below ranges_in verdict_of is_range listed_among cells_for zeros sectors_from authorities_of_locking any_to own_grants listed_grants told_grants method_grants maker_grants name_grants mode_grants listed_tables
+standbys = (refl, refl, refl, refl, refl)
 
 -- A block of two sectors is refused, and sectors behind the last one are not found.
 refused : (rules_met in_use (Accept (fis 0xc6 0 0 2) [] ∷ []) ≡ Unreadable Unknown ∷ [])

@@ -15,6 +15,7 @@ use Rattle.compacket.specs.Frames.{Frame, reading as frame_in}
 use Rattle.tcg_tokens.specs.Reading.{reading as message_in}
 use Rattle.trusted_cmds.specs.declared.command.Command.{Command}
 use Rattle.trusted_cmds.specs.declared.command.Command.TheVariants.{ReadQueued, WriteQueued, ReadDma, WriteDma, Send, Receive, ReadLog10, Identify, Flush, SetFeatures, ReadLog, ReadPio, WritePio, Verify, Trim, Control}
+use Rattle.trusted_cmds.specs.declared.control.Control.TheVariants.{SetMultiple, Idle, Standby, CheckPowerMode, Diagnose}
 use Rattle.trusted_cmds.specs.declared.command.CommandError.{CommandError}
 use Rattle.locking.specs.declared.ranges.Verdict.{Verdict}
 use Rattle.locking.specs.declared.ranges.Verdict.TheVariants.{Serve, Shadow, Denied}
@@ -24,9 +25,9 @@ use Rattle.device_data.specs.Discovery.{has_owner}
 use Rattle.history.specs.Opening.{Origin}
 use Rattle.history.proofs.TrimProofs.{trimmed-has}
 use Rattle.trusted_cmds.specs.Trims.{extents_in, has_sector}
-use Rattle.history.specs.Events.{did, HeldCommand, Deed, Nothing, InSession, Wrote, Trimmed, Event, or_else, OfQueue, Took, BlockedSid, Chose, WasReset, latest, CompletedWrite, Completed, Held, QueueFailed, QueueMended, QueueEnded, ignores, Silent}
+use Rattle.history.specs.Events.{did, HeldCommand, Deed, Nothing, InSession, Wrote, Trimmed, Event, or_else, OfQueue, Took, BlockedSid, Chose, PowerSet, WasReset, latest, CompletedWrite, Completed, Held, QueueFailed, QueueMended, QueueEnded, ignores, Silent}
 use Rattle.history.specs.Facts.{Facts, facts, session_named}
-use Rattle.history.specs.Decisions.{aborted, not_found, fails, refuses, fails_queue, on_drive, verdict_on, queued_by, queued_transfer, admitted, unqueued_by, unqueued_transfer, is_trusted, is_session_com_id, discovery_com_id, received, while_failed, is_busy, completed_by, completed, resets, is_received, unreceived, asks_stack, receive_other}
+use Rattle.history.specs.Decisions.{aborted, not_found, fails, refuses, fails_queue, on_drive, verdict_on, queued_by, queued_transfer, admitted, unqueued_by, unqueued_transfer, is_trusted, is_session_com_id, discovery_com_id, received, while_failed, is_busy, completed_by, completed, resets, is_received, unreceived, asks_stack, receive_other, was_read}
 use Rattle.history.specs.Tcg.{answers, to_manager, in_session, item_in, breaks_off, broken_off, is_discarded, manager_event, is_manager, to_session, framed, sent, unqueued, known, commanded, tcg, command_read, blocks_sid, unsent, is_sent, is_free_for, sent_by, broken_of, unframed, unframed_in, stack_sent, stack_reset, stack_kept}
 use Rattle.history.specs.History.{Act, Accept, Complete, Reset, SoftwareReset, event_by, log}
 use Rattle.shadow_mbr.specs.Erasure.{is_erased}
@@ -95,7 +96,7 @@ transfer-quiet : (f : Facts) (d : Deed) (op : Op) (lba count : ℕ) → quiet d 
 transfer-quiet f d op lba count h = either (on_drive f lba count) _ (fails not_found None (Some BeyondDrive)) (λ is. unqueued_by-quiet d (verdict_on f op lba count) h) refl
 
 unqueued-quiet : (f : Facts) (payload : List ℕ) (c : Command) → quiet (unqueued f payload c).deed ≡ true
-unqueued-quiet f payload (ReadDma lba count) = transfer-quiet f Nothing Read lba count refl
+unqueued-quiet f payload (ReadDma lba count) = transfer-quiet f was_read Read lba count refl
 unqueued-quiet f payload (WriteDma lba count) = transfer-quiet f (Wrote lba payload) Write lba count refl
 unqueued-quiet f payload (Send protocol com_id blocks dma) =
     either (resets f.rows (Send protocol com_id blocks dma)) (did (WasReset programmatic)) _ (λ is. refl)
@@ -105,10 +106,15 @@ unqueued-quiet f payload (Send protocol com_id blocks dma) =
     (either (is_sent f protocol com_id blocks) _ (refuses (unsent (is_some (f.waiting com_id)) protocol com_id blocks))
     (λ is. sent-quiet f com_id (broken_of f.config.profile payload) (frame_in payload) (middle (is_trusted protocol blocks) (is_session_com_id com_id) (is_free_for f com_id blocks) is)) refl)))
 unqueued-quiet f payload (Receive protocol com_id blocks dma) = either (asks_stack f.config.profile protocol com_id blocks) (did (InSession (StackTold com_id) Silent)) (receive_other f protocol com_id blocks) (λ is. refl) (either (is_received f protocol com_id blocks) _ (refuses (unreceived protocol blocks)) (λ is. received-quiet com_id blocks (f.waiting com_id)) refl)
-unqueued-quiet f payload (ReadPio lba count) = transfer-quiet f Nothing Read lba count refl
+unqueued-quiet f payload (ReadPio lba count) = transfer-quiet f was_read Read lba count refl
 unqueued-quiet f payload (WritePio lba count) = transfer-quiet f (Wrote lba payload) Write lba count refl
-unqueued-quiet f payload (Verify lba count) = transfer-quiet f Nothing Read lba count refl
+unqueued-quiet f payload (Verify lba count) = transfer-quiet f was_read Read lba count refl
 unqueued-quiet f payload (Trim blocks) = trimmed-has (λ e. quiet e.deed ≡ true) f (extents_in payload) refl (λ why. refl) refl
+unqueued-quiet f payload (Control SetMultiple) = refl
+unqueued-quiet f payload (Control Idle) = refl
+unqueued-quiet f payload (Control Standby) = refl
+unqueued-quiet f payload (Control CheckPowerMode) = refl
+unqueued-quiet f payload (Control Diagnose) = refl
 unqueued-quiet f payload _ = refl
 
 queued_by-quiet : (h : RegH2d) (tag : ℕ) (c : Command) (v : Verdict) → quiet (queued_by h tag c v).deed ≡ true
@@ -215,6 +221,7 @@ deed-left f act place past Nothing fed le is h rest = rest
 deed-left f act place past (Took c) fed le is h rest = rest
 deed-left f act place past (BlockedSid block) fed le is h rest = rest
 deed-left f act place past (Chose feature) fed le is h rest = rest
+deed-left f act place past (PowerSet in_standby) fed le is h rest = rest
 deed-left f act place past (WasReset kind) fed le is h rest = rest
 
 completed-left : (o : Origin) (acts : List Act) (tag place : ℕ) (payload : List ℕ) (x : Option HeldCommand) → (facts o (log o acts)).held tag ≡ x → length payload ≡ expected x → o.tables.config.sectors ≤ place → sector (log o acts) place ≡ zeros

@@ -10,7 +10,7 @@ use Rattle.sp_cells.specs.Config.{table_sectors}
 use Rattle.sessions.specs.Deeds.{cells_set, bytes_set, Change, Sets, Restores, Resets, SessionDeed, Unchanged, Started, Tried, Changed, Began, Committed, Aborted, Ended, Activated, Reverted, Erased, Drew, HostTold, StackReset, StackTold}
 use Rattle.history.specs.Changes.{byte_then, byte_in}
 use Rattle.history.specs.Opening.{Origin}
-use Rattle.history.specs.Events.{Response, Deed, Nothing, InSession, OfQueue, Wrote, Trimmed, Took, BlockedSid, Chose, WasReset, Event}
+use Rattle.history.specs.Events.{Response, Deed, Nothing, InSession, OfQueue, Wrote, Trimmed, Took, BlockedSid, Chose, PowerSet, WasReset, Event}
 use Rattle.history.specs.Readers.{changes_on, begins, open_on, own_changes, if_open, open_changes, only_on, unless_any_open, pin_change, brought, changes, is_of}
 use Rattle.history.specs.History.{Act, event, log}
 use Rattle.history.specs.Deeds.{is_inside, Changes, CanDo}
@@ -85,6 +85,7 @@ brought-inside o es (Trimmed extents) can own = refl
 brought-inside o es (Took x) can own = refl
 brought-inside o es (BlockedSid block) can own = refl
 brought-inside o es (Chose feature) can own = refl
+brought-inside o es (PowerSet in_standby) can own = refl
 brought-inside o es (WasReset kind) can own = refl
 
 record Inside (o : Origin) (past : List Event) : Type 0 where

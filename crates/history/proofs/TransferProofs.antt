@@ -13,10 +13,10 @@ use Rattle.locking.proofs.Verdicts.{permitted_is_served, is_verdict_of, verdict_
 use Rattle.audit.specs.declared.reason.Why.{Why}
 use Rattle.trusted_cmds.specs.declared.command.Command.{Command}
 use Rattle.trusted_cmds.specs.declared.command.Command.TheVariants.{ReadQueued, WriteQueued}
-use Rattle.history.specs.Events.{Deed, Nothing, Wrote, Event}
+use Rattle.history.specs.Events.{Deed, Wrote, Event}
 use Rattle.history.specs.Items.{Items}
 use Rattle.history.specs.Facts.{Facts}
-use Rattle.history.specs.Decisions.{not_found, aborted, fails, fails_queue, on_drive, ranges_in_force, verdict_on, queued_by, admitted, unqueued_by}
+use Rattle.history.specs.Decisions.{not_found, aborted, fails, fails_queue, on_drive, ranges_in_force, verdict_on, queued_by, admitted, unqueued_by, was_read}
 use Rattle.history.specs.History.{event_in}
 use Rattle.history.specs.DenialLaws.{Reaches, read_queued, write_queued, read_dma, write_dma, read_pio, write_pio, verify, IsFree}
 use Rattle.history.specs.TransferLaws.{is_denied, IsPermitted, IsReason, VerdictLaw, ServiceLaw}
@@ -82,15 +82,15 @@ answered items f h payload c tag op lba count (write_queued {lba = l} {count = n
     ∙ ap (λ b. (cond b (queued_by h t (WriteQueued l n) (verdict_on f Write l n)) (fails_queue (Some t) not_found h None (Some BeyondDrive))).failed) drive
     ∙ queued-failed h t (WriteQueued l n) (verdict_on f Write l n)
 answered items f h payload c tag op lba count (read_dma {lba = l} {count = n}) free drive =
-    ap (λ b. (cond b (unqueued_by Nothing (verdict_on f Read l n)) (fails not_found None (Some BeyondDrive))).failed) drive ∙ unqueued-failed Nothing (verdict_on f Read l n)
+    ap (λ b. (cond b (unqueued_by was_read (verdict_on f Read l n)) (fails not_found None (Some BeyondDrive))).failed) drive ∙ unqueued-failed was_read (verdict_on f Read l n)
 answered items f h payload c tag op lba count (write_dma {lba = l} {count = n}) free drive =
     ap (λ b. (cond b (unqueued_by (Wrote l payload) (verdict_on f Write l n)) (fails not_found None (Some BeyondDrive))).failed) drive ∙ unqueued-failed (Wrote l payload) (verdict_on f Write l n)
 answered items f h payload c tag op lba count (read_pio {lba = l} {count = n}) free drive =
-    ap (λ b. (cond b (unqueued_by Nothing (verdict_on f Read l n)) (fails not_found None (Some BeyondDrive))).failed) drive ∙ unqueued-failed Nothing (verdict_on f Read l n)
+    ap (λ b. (cond b (unqueued_by was_read (verdict_on f Read l n)) (fails not_found None (Some BeyondDrive))).failed) drive ∙ unqueued-failed was_read (verdict_on f Read l n)
 answered items f h payload c tag op lba count (write_pio {lba = l} {count = n}) free drive =
     ap (λ b. (cond b (unqueued_by (Wrote l payload) (verdict_on f Write l n)) (fails not_found None (Some BeyondDrive))).failed) drive ∙ unqueued-failed (Wrote l payload) (verdict_on f Write l n)
 answered items f h payload c tag op lba count (verify {lba = l} {count = n}) free drive =
-    ap (λ b. (cond b (unqueued_by Nothing (verdict_on f Read l n)) (fails not_found None (Some BeyondDrive))).failed) drive ∙ unqueued-failed Nothing (verdict_on f Read l n)
+    ap (λ b. (cond b (unqueued_by was_read (verdict_on f Read l n)) (fails not_found None (Some BeyondDrive))).failed) drive ∙ unqueued-failed was_read (verdict_on f Read l n)
 
 failed-none : (v : Verdict) → failed_by v ≡ None → is_denied v ≡ false
 failed-none Serve h = refl

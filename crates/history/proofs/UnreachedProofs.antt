@@ -10,13 +10,14 @@ use Rattle.locking.specs.declared.ranges.Verdict.TheVariants.{Serve, Shadow, Den
 use Rattle.trusted_cmds.specs.Commands.{is_queued, sector_size, is_protocol_list}
 use Rattle.trusted_cmds.specs.declared.command.Command.{Command}
 use Rattle.trusted_cmds.specs.declared.command.Command.TheVariants.{ReadQueued, WriteQueued, ReadDma, WriteDma, Send, Receive, Identify, ReadLog10, Flush, SetFeatures, ReadLog, ReadPio, WritePio, Verify, Trim, Control}
+use Rattle.trusted_cmds.specs.declared.control.Control.TheVariants.{SetMultiple, Idle, Standby, CheckPowerMode, Diagnose}
 use Rattle.trusted_cmds.specs.declared.command.CommandError.{CommandError}
 use Rattle.device_data.specs.ErrorLog.{sized}
 use Rattle.device_data.specs.Protocols.{protocol_list}
 use Rattle.shadow_mbr.specs.Erasure.{is_erased}
 use Rattle.shadow_mbr.specs.Stored.{zeros}
 use Rattle.sessions.specs.Deeds.{StackTold, erased_by}
-use Rattle.history.specs.Events.{QueueDeed, Held, Completed, CompletedWrite, QueueFailed, QueueMended, QueueEnded, Deed, Nothing, InSession, Silent, OfQueue, Wrote, Trimmed, Took, BlockedSid, Chose, WasReset, Event, did}
+use Rattle.history.specs.Events.{QueueDeed, Held, Completed, CompletedWrite, QueueFailed, QueueMended, QueueEnded, Deed, Nothing, InSession, Silent, OfQueue, Wrote, Trimmed, Took, BlockedSid, Chose, PowerSet, WasReset, Event, did}
 use Rattle.history.specs.Readers.{writing}
 use Rattle.history.specs.Facts.{Facts}
 use Rattle.history.specs.Decisions.{not_found, refuses, fails_queue, on_drive, verdict_on, queued_by, admitted, received, is_busy, resets, unqueued_of, while_failed, is_received, unreceived, asks_stack, asks_certificates, receive_other}
@@ -70,6 +71,7 @@ leaves deed none = record {
     left (Took com_id) h place = inl refl
     left (BlockedSid block) h place = inl refl
     left (Chose feature) h place = inl refl
+    left (PowerSet in_standby) h place = inl refl
     left (WasReset kind) h place = inl refl
 
 none-if : (b : Bool) (x y : Event) → is_write x.deed ≡ false → is_write y.deed ≡ false → is_write (cond b x y).deed ≡ false
@@ -85,6 +87,7 @@ quiet-none (Trimmed extents) h = cc
 quiet-none (Took com_id) h = refl
 quiet-none (BlockedSid block) h = refl
 quiet-none (Chose feature) h = refl
+quiet-none (PowerSet in_standby) h = refl
 quiet-none (WasReset kind) h = refl
 
 received-none : (com_id blocks : ℕ) (x : Option (List ℕ)) → is_write (received com_id blocks x).deed ≡ false
@@ -111,7 +114,11 @@ unqueued-none items still f payload Flush none = refl
 unqueued-none items still f payload (SetFeatures feature) none = refl
 unqueued-none items still f payload (ReadLog page dma) none = refl
 unqueued-none items still f payload (Trim blocks) none = absurd (true-false none.trims_none)
-unqueued-none items still f payload (Control control) none = refl
+unqueued-none items still f payload (Control SetMultiple) none = refl
+unqueued-none items still f payload (Control Idle) none = refl
+unqueued-none items still f payload (Control Standby) none = refl
+unqueued-none items still f payload (Control CheckPowerMode) none = refl
+unqueued-none items still f payload (Control Diagnose) none = refl
 
 queued-none : (h : RegH2d) (tag : ℕ) (c : Command) (b : Bool) (v : Verdict) → is_write (cond b (queued_by h tag c v) (fails_queue (Some tag) not_found h None (Some BeyondDrive))).deed ≡ false
 queued-none h tag c false v = refl

@@ -8,13 +8,14 @@ use Rattle.locking.specs.declared.range.Op.TheVariants.{Read, Write}
 use Rattle.trusted_cmds.specs.Commands.{is_queued, tag_of, sector_size}
 use Rattle.trusted_cmds.specs.declared.command.Command.{Command}
 use Rattle.trusted_cmds.specs.declared.command.Command.TheVariants.{ReadQueued, WriteQueued, ReadDma, WriteDma, Send, Receive, Identify, ReadLog10, Flush, SetFeatures, ReadLog, ReadPio, WritePio, Verify, Trim, Control}
+use Rattle.trusted_cmds.specs.declared.control.Control.TheVariants.{SetMultiple, Idle, Standby, CheckPowerMode, Diagnose}
 use Rattle.trusted_cmds.specs.declared.command.CommandError.{CommandError}
 use Rattle.locking.specs.declared.ranges.Verdict.{Verdict}
 use Rattle.locking.specs.declared.ranges.Verdict.TheVariants.{Serve, Shadow, Denied}
 use Rattle.device_data.specs.declared.log_page.Failure.{Failure}
-use Rattle.history.specs.Events.{HeldCommand, Deed, Nothing, InSession, OfQueue, Wrote, Trimmed, Took, BlockedSid, Chose, Event, did, WasReset, Silent}
+use Rattle.history.specs.Events.{HeldCommand, Deed, Nothing, InSession, OfQueue, Wrote, Trimmed, Took, BlockedSid, Chose, PowerSet, Event, did, WasReset, Silent}
 use Rattle.history.specs.Facts.{Facts}
-use Rattle.history.specs.Decisions.{not_found, aborted, fails, refuses, fails_queue, on_drive, ranges_in_force, verdict_on, queued_by, admitted, unqueued_by, is_trusted, is_session_com_id, discovery_com_id, received, while_failed, is_busy, completed_by, completed, resets, unqueued_of, known_of, commanded_of, is_received, unreceived, asks_stack, receive_other}
+use Rattle.history.specs.Decisions.{not_found, aborted, fails, refuses, fails_queue, on_drive, ranges_in_force, verdict_on, queued_by, admitted, unqueued_by, is_trusted, is_session_com_id, discovery_com_id, received, while_failed, is_busy, completed_by, completed, resets, unqueued_of, known_of, commanded_of, is_received, unreceived, asks_stack, receive_other, was_read}
 use Rattle.history.specs.Items.{Items}
 use Rattle.history.specs.Quiet.{is_quiet, IsQuiet}
 use Rattle.history.specs.History.{Act, Accept, Complete, Reset, SoftwareReset, event_in}
@@ -56,6 +57,7 @@ quiet-none (Trimmed extents) h = cc
 quiet-none (Took com_id) h = refl
 quiet-none (BlockedSid block) h = refl
 quiet-none (Chose feature) h = refl
+quiet-none (PowerSet in_standby) h = refl
 quiet-none (WasReset kind) h = refl
 
 received-none : (com_id blocks : ℕ) (x : Option (List ℕ)) → is_write (received com_id blocks x).deed ≡ false
@@ -81,7 +83,7 @@ served-is items f act l n lba bytes c writes looked true Shadow drive is g = wri
 
 unqueued-is : (items : Items) (still : IsQuiet items) (f : Facts) (act : Act) (lba : ℕ) (bytes : List ℕ) (c : Command) (looked : IsLookedAtBy items f act c None) → (unqueued_of items f looked.payload c).deed ≡ Wrote lba bytes → Writes items f act lba bytes
 unqueued-is items still f act lba bytes (WriteDma l n) looked g = served-is items f act l n lba bytes (WriteDma l n) write_dma looked (on_drive f l n) (verdict_on f Write l n) refl refl g
-unqueued-is items still f act lba bytes (ReadDma l n) looked g = absurd (not-write (none-if (on_drive f l n) (unqueued_by Nothing (verdict_on f Read l n)) (fails not_found None (Some BeyondDrive)) (unqueued_by-none Nothing (verdict_on f Read l n) refl) refl) g)
+unqueued-is items still f act lba bytes (ReadDma l n) looked g = absurd (not-write (none-if (on_drive f l n) (unqueued_by was_read (verdict_on f Read l n)) (fails not_found None (Some BeyondDrive)) (unqueued_by-none was_read (verdict_on f Read l n) refl) refl) g)
 unqueued-is items still f act lba bytes (Send p c b d) looked g =
     absurd (not-write (none-if (resets f.rows (Send p c b d)) (did (WasReset programmatic)) (items.sends f p c b looked.payload) refl
     (quiet-none (items.sends f p c b looked.payload).deed (still f p c b looked.payload))) g)
@@ -93,12 +95,16 @@ unqueued-is items still f act lba bytes (ReadLog10 d) looked g = absurd (not-wri
 unqueued-is items still f act lba bytes Flush looked g = absurd (not-write refl g)
 unqueued-is items still f act lba bytes (SetFeatures feature) looked g = absurd (not-write refl g)
 unqueued-is items still f act lba bytes (ReadLog page dma) looked g = absurd (not-write refl g)
-unqueued-is items still f act lba bytes (ReadPio l n) looked g = absurd (not-write (none-if (on_drive f l n) (unqueued_by Nothing (verdict_on f Read l n)) (fails not_found None (Some BeyondDrive)) (unqueued_by-none Nothing (verdict_on f Read l n) refl) refl) g)
+unqueued-is items still f act lba bytes (ReadPio l n) looked g = absurd (not-write (none-if (on_drive f l n) (unqueued_by was_read (verdict_on f Read l n)) (fails not_found None (Some BeyondDrive)) (unqueued_by-none was_read (verdict_on f Read l n) refl) refl) g)
 unqueued-is items still f act lba bytes (WritePio l n) looked g = served-is items f act l n lba bytes (WritePio l n) write_pio looked (on_drive f l n) (verdict_on f Write l n) refl refl g
-unqueued-is items still f act lba bytes (Verify l n) looked g = absurd (not-write (none-if (on_drive f l n) (unqueued_by Nothing (verdict_on f Read l n)) (fails not_found None (Some BeyondDrive)) (unqueued_by-none Nothing (verdict_on f Read l n) refl) refl) g)
+unqueued-is items still f act lba bytes (Verify l n) looked g = absurd (not-write (none-if (on_drive f l n) (unqueued_by was_read (verdict_on f Read l n)) (fails not_found None (Some BeyondDrive)) (unqueued_by-none was_read (verdict_on f Read l n) refl) refl) g)
 unqueued-is items still f act lba bytes (Trim blocks) looked g =
     absurd (not-write (trimmed-has (λ e. is_write e.deed ≡ false) f (extents_in looked.payload) refl (λ why. refl) refl) g)
-unqueued-is items still f act lba bytes (Control control) looked g = absurd (not-write refl g)
+unqueued-is items still f act lba bytes (Control SetMultiple) looked g = absurd (not-write refl g)
+unqueued-is items still f act lba bytes (Control Idle) looked g = absurd (not-write refl g)
+unqueued-is items still f act lba bytes (Control Standby) looked g = absurd (not-write refl g)
+unqueued-is items still f act lba bytes (Control CheckPowerMode) looked g = absurd (not-write refl g)
+unqueued-is items still f act lba bytes (Control Diagnose) looked g = absurd (not-write refl g)
 
 queued-none : (h : RegH2d) (tag : ℕ) (c : Command) (b : Bool) (v : Verdict) → is_write (cond b (queued_by h tag c v) (fails_queue (Some tag) not_found h None (Some BeyondDrive))).deed ≡ false
 queued-none h tag c false v = refl

@@ -3,6 +3,7 @@
 use Rattle.sp_cells.specs.Config.{Config}
 use Rattle.std.specs.Prelude.{ℕ, ◌*◌, ◌^◌, ◌==◌, slice_index, Bool, true, false, List, [], ◌∷◌, Option, Some, None, is_some, unwrap_or, Result, Ok, Err, if◌then◌else◌}
 use Rattle.device_data.specs.ErrorLog.{error_log}
+use Rattle.device_data.specs.declared.settings.Settings.{Settings}
 use Rattle.fis.specs.Types.{h2d_type}
 use Rattle.fis.specs.H2d.{h2d_at}
 use Rattle.fis.specs.declared.h2d.RegH2d.{RegH2d}
@@ -134,12 +135,15 @@ diagnosed_fis =
       count = signature_count;
     })
 
--- A device that is active, or idle (ACS-3, CHECK POWER MODE, Normal Outputs).
+-- A device that is active, or idle; and one that is in standby (ACS-3, CHECK POWER MODE, Normal Outputs).
 abbrev pub active_or_idle : ℕ
 active_or_idle = 0xff
 
-abbrev pub power_fis : Fis
-power_fis =
+abbrev pub standby : ℕ
+standby = 0x00
+
+abbrev pub power_fis : Bool → Fis
+power_fis in_standby =
     fises.D2h (record {
       interrupt = true;
       port = 0;
@@ -147,7 +151,7 @@ power_fis =
       error = 0;
       lba = 0;
       device = 0;
-      count = active_or_idle;
+      count = if in_standby then standby else active_or_idle;
     })
 
 -- A PIO Setup FIS, one for all blocks.
@@ -168,21 +172,23 @@ pio_fis to_host end_status =
 
 -- The PIO forms: a send and a write have one PIO Setup FIS in front; IDENTIFY, a receive, a log read and a read have it
 -- alone. Some commands tell by the fields of their FIS.
-abbrev pub served_fises : Command → List Fis
-served_fises (Send protocol com_id blocks false) = pio_fis false busy ∷ answer_fis true ready 0 ∷ []
-served_fises (Receive protocol com_id blocks false) = pio_fis true ready ∷ []
-served_fises (ReadLog10 false) = pio_fis true ready ∷ []
-served_fises (ReadLog pages false) = pio_fis true ready ∷ []
-served_fises Identify = pio_fis true ready ∷ []
-served_fises (ReadPio lba count) = pio_fis true ready ∷ []
-served_fises (WritePio lba count) = pio_fis false busy ∷ answer_fis true ready 0 ∷ []
-served_fises (Control Diagnose) = diagnosed_fis ∷ []
-served_fises (Control CheckPowerMode) = power_fis ∷ []
-served_fises _ = answer_fis true ready 0 ∷ []
+abbrev pub served_fises : Settings → Command → List Fis
+served_fises settings (Send protocol com_id blocks false) =
+    pio_fis false busy ∷ answer_fis true ready 0 ∷ []
+served_fises settings (Receive protocol com_id blocks false) = pio_fis true ready ∷ []
+served_fises settings (ReadLog10 false) = pio_fis true ready ∷ []
+served_fises settings (ReadLog pages false) = pio_fis true ready ∷ []
+served_fises settings Identify = pio_fis true ready ∷ []
+served_fises settings (ReadPio lba count) = pio_fis true ready ∷ []
+served_fises settings (WritePio lba count) =
+    pio_fis false busy ∷ answer_fis true ready 0 ∷ []
+served_fises settings (Control Diagnose) = diagnosed_fis ∷ []
+served_fises settings (Control CheckPowerMode) = power_fis settings.in_standby ∷ []
+served_fises settings _ = answer_fis true ready 0 ∷ []
 
-abbrev pub fises_read : Result (Command × Option ℕ) CommandError → List Fis
-fises_read (Ok (command, tag)) = served_fises command
-fises_read (Err e) = []
+abbrev pub fises_read : Settings → Result (Command × Option ℕ) CommandError → List Fis
+fises_read settings (Ok (command, tag)) = served_fises settings command
+fises_read settings (Err e) = []
 
 abbrev pub is_holding : Deed → Bool
 is_holding (OfQueue (Held tag held)) = true
@@ -192,7 +198,7 @@ abbrev pub answer_fises_of : Items → Facts → RegH2d → Event → List Fis
 answer_fises_of items f h event =
     if is_some event.failed then answer_fis true errored (unwrap_or event.failed 0) ∷ []
     else (if is_holding event.deed then answer_fis false ready 0 ∷ []
-    else fises_read (items.reads f.config h))
+    else fises_read f.settings (items.reads f.config h))
 
 abbrev pub accepted_fises_of : Items → Facts → List ℕ → Event → List Fis
 accepted_fises_of items f fis event = answer_fises_of items f (h2d_at fis) event

@@ -23,6 +23,8 @@ use Rattle.audit.specs.declared.rules.rule.Rule.{Rule}
 use Rattle.audit.specs.declared.rules.rule.Rule.TheVariants.{NoCommand, Unreadable, QueueFailed, Mixed, TagHeld, BeyondDrive, Protocol, ComId}
 use Rattle.trusted_cmds.specs.declared.command.Command.{Command}
 use Rattle.trusted_cmds.specs.declared.command.Command.TheVariants.{ReadQueued, WriteQueued, ReadDma, WriteDma, Send, Receive, Identify, ReadLog10, Flush, SetFeatures, ReadLog, ReadPio, WritePio, Verify, Trim, Control}
+use Rattle.trusted_cmds.specs.declared.control.Control as controls
+use Rattle.trusted_cmds.specs.declared.control.Control.TheVariants.{Idle, Standby}
 use Rattle.trusted_cmds.specs.declared.command.CommandError.{CommandError}
 use Rattle.trusted_cmds.specs.declared.trim.Extent.{Extent}
 use Rattle.trusted_cmds.specs.Trims.{extents_in}
@@ -34,7 +36,7 @@ use Rattle.locking.specs.Range.{RangeRows}
 use Rattle.locking.specs.Ranges.{ranges_in}
 use Rattle.locking.specs.Verdict.{verdict_of}
 use Rattle.sessions.specs.Deeds.{StackTold}
-use Rattle.history.specs.Events.{InSession, Silent, HeldCommand, Held, Completed, CompletedWrite, QueueFailed, QueueMended, Deed, Nothing, OfQueue, Wrote, Trimmed, Took, WasReset, Chose, Event, did, or_else}
+use Rattle.history.specs.Events.{InSession, Silent, HeldCommand, Held, Completed, CompletedWrite, QueueFailed, QueueMended, Deed, Nothing, OfQueue, Wrote, Trimmed, Took, WasReset, Chose, PowerSet, Event, did, or_else}
 use Rattle.history.specs.Facts.{Facts}
 use Rattle.history.specs.Items.{Items}
 
@@ -213,8 +215,17 @@ receive f protocol com_id blocks =
 -- Commands, by what an item does. A transfer by PIO is judged whole, as one by DMA, and a verification as the read that it is
 -- (SIIS 1.05, commands of a locked range; ACS-3, READ VERIFY SECTOR(S)).
 
+-- Where sectors are read, the drive is active, and it goes to standby where it is told to (ACS-3, Power Management feature set).
+abbrev pub was_read : Deed
+was_read = PowerSet false
+
+abbrev pub control_deed : controls.Control → Deed
+control_deed Standby = PowerSet true
+control_deed Idle = PowerSet false
+control_deed _ = Nothing
+
 abbrev pub unqueued_of : Items → Facts → List ℕ → Command → Event
-unqueued_of items f payload (ReadDma lba count) = unqueued_transfer f Nothing Read lba count
+unqueued_of items f payload (ReadDma lba count) = unqueued_transfer f was_read Read lba count
 unqueued_of items f payload (WriteDma lba count) =
     unqueued_transfer f (Wrote lba payload) Write lba count
 unqueued_of items f payload (Send protocol com_id blocks dma) =
@@ -226,12 +237,12 @@ unqueued_of items f payload (ReadLog10 dma) = did Nothing
 unqueued_of items f payload Flush = did Nothing
 unqueued_of items f payload (SetFeatures feature) = did (Chose feature)
 unqueued_of items f payload (ReadLog pages dma) = did Nothing
-unqueued_of items f payload (ReadPio lba count) = unqueued_transfer f Nothing Read lba count
+unqueued_of items f payload (ReadPio lba count) = unqueued_transfer f was_read Read lba count
 unqueued_of items f payload (WritePio lba count) =
     unqueued_transfer f (Wrote lba payload) Write lba count
-unqueued_of items f payload (Verify lba count) = unqueued_transfer f Nothing Read lba count
+unqueued_of items f payload (Verify lba count) = unqueued_transfer f was_read Read lba count
 unqueued_of items f payload (Trim blocks) = trimmed f (extents_in payload)
-unqueued_of items f payload (Control control) = did Nothing
+unqueued_of items f payload (Control control) = did (control_deed control)
 unqueued_of items f payload (ReadQueued lba count) = refuses NoCommand
 unqueued_of items f payload (WriteQueued lba count) = refuses NoCommand
 

@@ -51,6 +51,8 @@ pub data Deed : Type 0 where
   BlockedSid : (block : SidBlock) → Deed
   -- a host chose a feature
   Chose : (feature : Feature) → Deed
+  -- the drive went to standby, or it became active, also because sectors were read
+  PowerSet : (in_standby : Bool) → Deed
 
 pub record Event : Type 0 where
   -- the error of a command that failed

@@ -11,7 +11,7 @@ use Rattle.sessions.specs.Live.{Holder, Live, session_at, found}
 use Rattle.sessions.specs.Made.{Leaves, LeavesAll, LivesAs}
 use Rattle.history.specs.Opening.{Origin}
 use Rattle.sessions.specs.Deeds.{Begun}
-use Rattle.history.specs.Events.{Deed, Nothing, InSession, OfQueue, Wrote, Trimmed, Took, WasReset, BlockedSid, Chose, Event, or_else}
+use Rattle.history.specs.Events.{Deed, Nothing, InSession, OfQueue, Wrote, Trimmed, Took, WasReset, BlockedSid, Chose, PowerSet, Event, or_else}
 use Rattle.history.specs.Readers.{session_on, authorities, first_number, next_number}
 use Rattle.history.specs.Facts.{facts, session_named}
 
@@ -60,6 +60,7 @@ LivesBy (Took com_id) l m = LeavesAll l m
 LivesBy (WasReset kind) l m = Leaves (λ h. None) l m
 LivesBy (BlockedSid block) l m = LeavesAll l m
 LivesBy (Chose feature) l m = LeavesAll l m
+LivesBy (PowerSet in_standby) l m = LeavesAll l m
 
 -- Laws.
 

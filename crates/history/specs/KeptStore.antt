@@ -20,7 +20,7 @@ use Rattle.sessions.specs.Made.{StoresAs}
 use Rattle.locking.specs.declared.range.RangeRow.{RangeRow}
 use Rattle.history.specs.Opening.{Origin, origin_on, factory_origin, origin_with}
 use Rattle.history.specs.Changes.{byte_in}
-use Rattle.history.specs.Events.{Deed, Nothing, InSession, OfQueue, Wrote, Trimmed, Took, WasReset, BlockedSid, Chose, Event}
+use Rattle.history.specs.Events.{Deed, Nothing, InSession, OfQueue, Wrote, Trimmed, Took, WasReset, BlockedSid, Chose, PowerSet, Event}
 use Rattle.history.specs.Readers.{changes, open_changes, open_on, rows_after, rows_within, tries, in_force, view, byte_in_force, byte_in_view}
 use Rattle.history.specs.Agreement.{HasNoTries}
 
@@ -100,6 +100,7 @@ StoresBy (Took com_id) s t = t ≡ s
 StoresBy (WasReset kind) s t = t ≡ after_reset kind s
 StoresBy (BlockedSid block) s t = t ≡ s
 StoresBy (Chose feature) s t = t ≡ s
+StoresBy (PowerSet in_standby) s t = t ≡ s
 
 -- Laws.
 

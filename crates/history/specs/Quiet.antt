@@ -4,7 +4,7 @@ use Rattle.fis.specs.declared.h2d.RegH2d.{RegH2d}
 use Rattle.fis.specs.Tags.{slot_count}
 use Rattle.sp_cells.specs.Config.{Config}
 use Rattle.trusted_cmds.specs.declared.command.Command.{Command}
-use Rattle.history.specs.Events.{Deed, Nothing, InSession, WasReset, BlockedSid, Chose}
+use Rattle.history.specs.Events.{Deed, Nothing, InSession, WasReset, BlockedSid, Chose, PowerSet}
 use Rattle.history.specs.Facts.{Facts}
 use Rattle.history.specs.Items.{Items}
 
@@ -16,6 +16,7 @@ is_quiet (InSession deed response) = true
 is_quiet (WasReset kind) = true
 is_quiet (BlockedSid block) = true
 is_quiet (Chose feature) = true
+is_quiet (PowerSet in_standby) = true
 is_quiet _ = false
 
 -- So is each send.

@@ -29,8 +29,8 @@ use Rattle.sessions.specs.Made.{beside_after}
 use Rattle.history.specs.Changes.{apply_all, byte_in, with_tries}
 use Rattle.device_data.specs.declared.log_page.Failure.{Failure}
 use Rattle.device_data.specs.declared.settings.Settings.{Settings}
-use Rattle.device_data.specs.Settings.{first_settings, with_feature, settings_at_reset}
-use Rattle.history.specs.Events.{HeldCommand, QueueDeed, Held, Completed, CompletedWrite, QueueFailed, QueueMended, QueueEnded, Deed, InSession, OfQueue, Wrote, Trimmed, Took, WasReset, BlockedSid, Chose, Event, latest, since, every, count, Left, Silent, Dropped}
+use Rattle.device_data.specs.Settings.{first_settings, with_feature, settings_at_reset, with_standby, active}
+use Rattle.history.specs.Events.{HeldCommand, QueueDeed, Held, Completed, CompletedWrite, QueueFailed, QueueMended, QueueEnded, Deed, InSession, OfQueue, Wrote, Trimmed, Took, WasReset, BlockedSid, Chose, PowerSet, Event, latest, since, every, count, Left, Silent, Dropped}
 
 -- It speaks of this SP.
 abbrev pub on_sp : {A : Type 0} → Sp → Sp → A → Option A
@@ -238,10 +238,20 @@ abbrev pub beside : List Event → Beside
 beside [] = new_beside
 beside (event ∷ before) = beside_then event.deed (beside before)
 
--- What a host has chosen of the drive's interface (ACS-3, SET FEATURES).
+-- What a host has chosen of the drive's interface (ACS-3, SET FEATURES), and whether the drive is in standby: it leaves that
+-- where sectors are read, written or trimmed (ACS-3, Power Management feature set).
+
+abbrev pub settings_by : QueueDeed → Settings → Settings
+settings_by (Completed tag) before = active before
+settings_by (CompletedWrite tag lba bytes) before = active before
+settings_by _ before = before
 
 abbrev pub settings_then : Deed → Settings → Settings
 settings_then (Chose feature) before = with_feature feature before
+settings_then (PowerSet in_standby) before = with_standby in_standby before
+settings_then (Wrote lba bytes) before = active before
+settings_then (Trimmed extents) before = active before
+settings_then (OfQueue deed) before = settings_by deed before
 settings_then (WasReset kind) before = settings_at_reset kind before
 settings_then _ before = before
 

@@ -12,12 +12,13 @@ use Rattle.locking.specs.declared.range.Op.TheVariants.{Read, Write}
 use Rattle.locking.specs.declared.ranges.Verdict.{Verdict}
 use Rattle.locking.specs.declared.ranges.Verdict.TheVariants.{Serve, Shadow, Denied}
 use Rattle.trusted_cmds.specs.declared.command.Command.{Command}
-use Rattle.trusted_cmds.specs.declared.control.Control.TheVariants.{SetMultiple, Idle, CheckPowerMode, Diagnose}
+use Rattle.trusted_cmds.specs.declared.control.Control.TheVariants.{SetMultiple, Idle, Standby, CheckPowerMode, Diagnose}
 use Rattle.trusted_cmds.specs.declared.command.Command.TheVariants.{ReadQueued, WriteQueued, ReadDma, WriteDma, Send, Receive, Identify, ReadLog10, Flush, SetFeatures, ReadLog, ReadPio, WritePio, Verify, Trim, Control}
 use Rattle.trusted_cmds.specs.declared.command.CommandError.{CommandError}
 use Rattle.trusted_cmds.specs.Commands.{fis_of, tag_with, sector_size, is_queued as is_queued_code}
+use Rattle.device_data.specs.declared.settings.Settings.{Settings}
 use Rattle.history.specs.Opening.{Origin}
-use Rattle.history.specs.Events.{QueueMended, Deed, Nothing, InSession, Silent, OfQueue, Wrote, Trimmed, Took, BlockedSid, Chose, WasReset, Event, did, or_else, latest}
+use Rattle.history.specs.Events.{QueueMended, Deed, Nothing, InSession, Silent, OfQueue, Wrote, Trimmed, Took, BlockedSid, Chose, PowerSet, WasReset, Event, did, or_else, latest}
 use Rattle.sessions.specs.Deeds.{StackTold}
 use Rattle.history.specs.Readers.{holding, held, failing, failure}
 use Rattle.history.specs.Items.{Items}
@@ -26,7 +27,7 @@ use Rattle.history.proofs.QuietProofs.{tcg_quiet}
 use Rattle.history.proofs.TrimProofs.{trimmed-has}
 use Rattle.trusted_cmds.specs.Trims.{extents_in}
 use Rattle.history.specs.Facts.{Facts, facts}
-use Rattle.history.specs.Decisions.{not_found, aborted, fails, refuses, fails_queue, on_drive, verdict_on, holds, queued_by, admitted, unqueued_by, is_trusted, is_session_com_id, discovery_com_id, received, is_busy, resets, unqueued_of, known_of, commanded_of, while_failed, is_received, unreceived, asks_stack, receive_other}
+use Rattle.history.specs.Decisions.{not_found, aborted, fails, refuses, fails_queue, on_drive, verdict_on, holds, queued_by, admitted, unqueued_by, is_trusted, is_session_com_id, discovery_com_id, received, is_busy, resets, unqueued_of, known_of, commanded_of, while_failed, is_received, unreceived, asks_stack, receive_other, was_read}
 use Rattle.history.specs.Tcg.{data_read, command_read, tcg}
 use Rattle.history.specs.Answers.{answer_fis, pio_fis, ready, errored, is_holding, answer_fises_of, fises_read, answer_data_of, data_read_of}
 use Rattle.history.specs.History.{Accept as AcceptFis, event_by, event_in}
@@ -84,6 +85,7 @@ code_of (Verify lba count) tag = refl
 code_of (Trim blocks) tag = refl
 code_of (Control SetMultiple) tag = refl
 code_of (Control Idle) tag = refl
+code_of (Control Standby) tag = refl
 code_of (Control CheckPowerMode) tag = refl
 code_of (Control Diagnose) tag = refl
 
@@ -289,6 +291,7 @@ is_of_queue (Trimmed extents) = false
 is_of_queue (Took com_id) = false
 is_of_queue (BlockedSid block) = false
 is_of_queue (Chose feature) = false
+is_of_queue (PowerSet in_standby) = false
 is_of_queue (WasReset kind) = false
 
 abbrev pub executed_fis : Command → Option ℕ → Fis
@@ -330,6 +333,7 @@ of-items (Trimmed extents) h = refl
 of-items (Took com_id) h = refl
 of-items (BlockedSid block) h = refl
 of-items (Chose feature) h = refl
+of-items (PowerSet in_standby) h = refl
 of-items (WasReset kind) h = refl
 
 received-quiet : (com_id blocks : ℕ) (x : Option (List ℕ))
@@ -341,7 +345,7 @@ received-quiet com_id blocks (Some response) =
 
 unqueued-quiet : (items : Items) (still : IsForPorts items) (f : Facts) (payload : List ℕ) (command : Command)
     → is_of_queue (unqueued_of items f payload command).deed ≡ false
-unqueued-quiet items still f payload (ReadDma lba count) = transfer-quiet f Nothing Read lba count refl
+unqueued-quiet items still f payload (ReadDma lba count) = transfer-quiet f was_read Read lba count refl
 unqueued-quiet items still f payload (WriteDma lba count) =
     transfer-quiet f (Wrote lba payload) Write lba count refl
 unqueued-quiet items still f payload (Send protocol com_id blocks dma) =
@@ -360,13 +364,17 @@ unqueued-quiet items still f payload (ReadLog10 dma) = refl
 unqueued-quiet items still f payload Flush = refl
 unqueued-quiet items still f payload (SetFeatures feature) = refl
 unqueued-quiet items still f payload (ReadLog page dma) = refl
-unqueued-quiet items still f payload (ReadPio lba count) = transfer-quiet f Nothing Read lba count refl
+unqueued-quiet items still f payload (ReadPio lba count) = transfer-quiet f was_read Read lba count refl
 unqueued-quiet items still f payload (WritePio lba count) =
     transfer-quiet f (Wrote lba payload) Write lba count refl
-unqueued-quiet items still f payload (Verify lba count) = transfer-quiet f Nothing Read lba count refl
+unqueued-quiet items still f payload (Verify lba count) = transfer-quiet f was_read Read lba count refl
 unqueued-quiet items still f payload (Trim blocks) =
     trimmed-has (λ e. is_of_queue e.deed ≡ false) f (extents_in payload) refl (λ why. refl) refl
-unqueued-quiet items still f payload (Control control) = refl
+unqueued-quiet items still f payload (Control SetMultiple) = refl
+unqueued-quiet items still f payload (Control Idle) = refl
+unqueued-quiet items still f payload (Control Standby) = refl
+unqueued-quiet items still f payload (Control CheckPowerMode) = refl
+unqueued-quiet items still f payload (Control Diagnose) = refl
 unqueued-quiet items still f payload (ReadQueued lba count) = refl
 unqueued-quiet items still f payload (WriteQueued lba count) = refl
 
@@ -380,6 +388,7 @@ holds_nothing (Trimmed extents) quiet = refl
 holds_nothing (Took com_id) quiet = refl
 holds_nothing (BlockedSid block) quiet = refl
 holds_nothing (Chose feature) quiet = refl
+holds_nothing (PowerSet in_standby) quiet = refl
 holds_nothing (WasReset kind) quiet = refl
 
 -- the queue is as before
@@ -394,6 +403,7 @@ held_stays (Trimmed extents) past tag quiet none = refl
 held_stays (Took com_id) past tag quiet none = refl
 held_stays (BlockedSid block) past tag quiet none = refl
 held_stays (Chose feature) past tag quiet none = refl
+held_stays (PowerSet in_standby) past tag quiet none = refl
 held_stays (WasReset kind) past tag quiet none = sym none
 
 failure_stays : (d : Deed) (past : List Event) → is_of_queue d ≡ false → failure past ≡ None
@@ -406,6 +416,7 @@ failure_stays (Trimmed extents) past quiet none = refl
 failure_stays (Took com_id) past quiet none = refl
 failure_stays (BlockedSid block) past quiet none = refl
 failure_stays (Chose feature) past quiet none = refl
+failure_stays (PowerSet in_standby) past quiet none = refl
 failure_stays (WasReset kind) past quiet none = sym none
 
 known-unqueued : (items : Items) (f : Facts) (h : RegH2d) (bytes : List ℕ) (command : Command) (tag : ℕ)
@@ -429,26 +440,26 @@ known-unqueued items f h bytes (Verify lba count) tag unqueued = refl
 known-unqueued items f h bytes (Trim blocks) tag unqueued = refl
 known-unqueued items f h bytes (Control control) tag unqueued = refl
 
-served-fis : (command : Command) (tag : ℕ) → is_queued_command command ≡ false → is_of_request command ≡ true
-    → fises_read (Ok (read_as command, tag_with command tag)) ≡ executed_fis command None ∷ []
-served-fis (ReadQueued lba count) tag unqueued asked = absurd cc
-served-fis (WriteQueued lba count) tag unqueued asked = absurd cc
-served-fis (ReadDma lba count) tag unqueued asked = refl
-served-fis (WriteDma lba count) tag unqueued asked = refl
-served-fis (Send protocol com_id blocks true) tag unqueued asked = refl
-served-fis (Send protocol com_id blocks false) tag unqueued asked = absurd cc
-served-fis (Receive protocol com_id blocks true) tag unqueued asked = refl
-served-fis (Receive protocol com_id blocks false) tag unqueued asked = absurd cc
-served-fis Identify tag unqueued asked = refl
-served-fis (ReadLog10 dma) tag unqueued asked = absurd cc
-served-fis Flush tag unqueued asked = refl
-served-fis (SetFeatures feature) tag unqueued asked = absurd cc
-served-fis (ReadLog page dma) tag unqueued asked = absurd cc
-served-fis (ReadPio lba count) tag unqueued asked = absurd cc
-served-fis (WritePio lba count) tag unqueued asked = absurd cc
-served-fis (Verify lba count) tag unqueued asked = absurd cc
-served-fis (Trim blocks) tag unqueued asked = absurd cc
-served-fis (Control control) tag unqueued asked = absurd cc
+served-fis : (settings : Settings) (command : Command) (tag : ℕ) → is_queued_command command ≡ false → is_of_request command ≡ true
+    → fises_read settings (Ok (read_as command, tag_with command tag)) ≡ executed_fis command None ∷ []
+served-fis settings (ReadQueued lba count) tag unqueued asked = absurd cc
+served-fis settings (WriteQueued lba count) tag unqueued asked = absurd cc
+served-fis settings (ReadDma lba count) tag unqueued asked = refl
+served-fis settings (WriteDma lba count) tag unqueued asked = refl
+served-fis settings (Send protocol com_id blocks true) tag unqueued asked = refl
+served-fis settings (Send protocol com_id blocks false) tag unqueued asked = absurd cc
+served-fis settings (Receive protocol com_id blocks true) tag unqueued asked = refl
+served-fis settings (Receive protocol com_id blocks false) tag unqueued asked = absurd cc
+served-fis settings Identify tag unqueued asked = refl
+served-fis settings (ReadLog10 dma) tag unqueued asked = absurd cc
+served-fis settings Flush tag unqueued asked = refl
+served-fis settings (SetFeatures feature) tag unqueued asked = absurd cc
+served-fis settings (ReadLog page dma) tag unqueued asked = absurd cc
+served-fis settings (ReadPio lba count) tag unqueued asked = absurd cc
+served-fis settings (WritePio lba count) tag unqueued asked = absurd cc
+served-fis settings (Verify lba count) tag unqueued asked = absurd cc
+served-fis settings (Trim blocks) tag unqueued asked = absurd cc
+served-fis settings (Control control) tag unqueued asked = absurd cc
 
 failed-fis : (command : Command) (error : ℕ)
     → answer_fis true errored error ∷ [] ≡ executed_fis command (Some error) ∷ []
@@ -515,11 +526,11 @@ executed_effect items still o past command tag bytes lt sized unqueued_is mended
   still_held = λ t. held_stays (event_in items f (AcceptFis fis bytes)).deed past t quiet (none t);
   still_failing = failure_stays (event_in items f (AcceptFis fis bytes)).deed past quiet mended;
   fises =
-      fises-by command fis (fises_read (items.reads f.config (h2d_at fis)))
+      fises-by command fis (fises_read f.settings (items.reads f.config (h2d_at fis)))
       (event_in items f (AcceptFis fis bytes)).deed (event_in items f (AcceptFis fis bytes)).failed
       (holds_nothing _ quiet)
-      (ap fises_read (reads_bytes items still f.config command tag lt sized)
-      ∙ served-fis command tag unqueued_is sized.asked);
+      (ap (fises_read f.settings) (reads_bytes items still f.config command tag lt sized)
+      ∙ served-fis f.settings command tag unqueued_is sized.asked);
 }
   where
     f : Facts
@@ -581,7 +592,8 @@ mends items still o past found is =
     (λ (r : Result (Command × Option ℕ) CommandError). record {
       event = while_failed r;
       fises = if is_some (while_failed r).failed then answer_fis true errored (unwrap_or (while_failed r).failed 0) ∷ []
-          else (if is_holding (while_failed r).deed then answer_fis false ready 0 ∷ [] else fises_read r);
+          else (if is_holding (while_failed r).deed then answer_fis false ready 0 ∷ []
+          else fises_read (facts o past).settings r);
       bytes = if is_some (while_failed r).failed then []
           else data_read_of items (record (facts o past) { failure = Some found }) r;
     })

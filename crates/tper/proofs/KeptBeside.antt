@@ -5,7 +5,7 @@ use Rattle.transactions.specs.Stored.{Stored}
 use Rattle.sessions.specs.Live.{Live}
 use Rattle.sessions.specs.declared.beside.Beside.{Beside}
 use Rattle.history.specs.Opening.{Origin}
-use Rattle.history.specs.Events.{Deed, Nothing, OfQueue, Wrote, Trimmed, Chose, Event, or_else, latest}
+use Rattle.history.specs.Events.{Deed, Nothing, OfQueue, Wrote, Trimmed, Chose, PowerSet, Event, or_else, latest}
 use Rattle.history.specs.Readers.{waits, waiting, beside_then}
 use Rattle.history.specs.KeptStore.{StoresBy}
 use Rattle.history.specs.KeptSessions.{LivesBy}
@@ -20,6 +20,7 @@ spares (OfQueue deed) = true
 spares (Wrote lba bytes) = true
 spares (Trimmed extents) = true
 spares (Chose feature) = true
+spares (PowerSet in_standby) = true
 spares _ = false
 
 spares-store : (d : Deed) (s : Stored) → spares d ≡ true → StoresBy d s s
@@ -28,6 +29,7 @@ spares-store (OfQueue deed) s h = refl
 spares-store (Wrote lba bytes) s h = refl
 spares-store (Trimmed extents) s h = refl
 spares-store (Chose feature) s h = refl
+spares-store (PowerSet in_standby) s h = refl
 spares-store _ s h = cc
 
 spares-live : (d : Deed) (l : Live) → spares d ≡ true → LivesBy d l l
@@ -36,6 +38,7 @@ spares-live (OfQueue deed) l h = record { next = refl; at = λ n. refl }
 spares-live (Wrote lba bytes) l h = record { next = refl; at = λ n. refl }
 spares-live (Trimmed extents) l h = record { next = refl; at = λ n. refl }
 spares-live (Chose feature) l h = record { next = refl; at = λ n. refl }
+spares-live (PowerSet in_standby) l h = record { next = refl; at = λ n. refl }
 spares-live _ l h = cc
 
 spares-beside : (d : Deed) (b : Beside) → spares d ≡ true → beside_then d b ≡ b
@@ -44,6 +47,7 @@ spares-beside (OfQueue deed) b h = refl
 spares-beside (Wrote lba bytes) b h = refl
 spares-beside (Trimmed extents) b h = refl
 spares-beside (Chose feature) b h = refl
+spares-beside (PowerSet in_standby) b h = refl
 spares-beside _ b h = cc
 
 spares-waiting : (d : Deed) (com_id : ℕ) → spares d ≡ true → waits com_id d ≡ None
@@ -52,6 +56,7 @@ spares-waiting (OfQueue deed) com_id h = refl
 spares-waiting (Wrote lba bytes) com_id h = refl
 spares-waiting (Trimmed extents) com_id h = refl
 spares-waiting (Chose feature) com_id h = refl
+spares-waiting (PowerSet in_standby) com_id h = refl
 spares-waiting _ com_id h = cc
 
 either : (x y : Option (Option (List ℕ))) → unwrap_or (or_else x y) None ≡ unwrap_or x (unwrap_or y None)

@@ -8,7 +8,7 @@ use Rattle.trusted_cmds.specs.declared.command.Command.TheVariants.{ReadQueued, 
 use Rattle.trusted_cmds.specs.declared.command.CommandError.{CommandError}
 use Rattle.trusted_cmds.specs.declared.command.CommandError.TheVariants.{Unknown, NotCommand}
 use Rattle.trusted_cmds.specs.declared.control.Control as controls
-use Rattle.trusted_cmds.specs.declared.control.Control.TheVariants.{SetMultiple, Idle, CheckPowerMode, Diagnose}
+use Rattle.trusted_cmds.specs.declared.control.Control.TheVariants.{SetMultiple, Idle, Standby, CheckPowerMode, Diagnose}
 use Rattle.trusted_cmds.specs.Commands.{sector_size, has_lba_bit, write_dma, is_send, is_known_code, fault_of, read_unless}
 use Rattle.trusted_cmds.specs.Profiles.{beside, read_or, reading_in, payload_length_in, field_payload_length, short_write_dma}
 use Rattle.trusted_cmds.specs.General.{CarriesMore, reads_pio, writes_pio, verifies, writes_more, brings_more, blocks_brought, moves_more, asks_trim, names_control, control_named, first_moved, sectors_moved, moving, more}
@@ -65,6 +65,7 @@ named h (Some control) c e is g =
     names : (h : RegH2d) (control : controls.Control) → control_named h ≡ Some control → names_control control h ≡ true
     names h SetMultiple e = grind arith
     names h Idle e = grind arith
+    names h Standby e = grind arith
     names h CheckPowerMode e = grind arith
     names h Diagnose e = grind arith
 
@@ -114,8 +115,8 @@ carried-size h (ReadPio lba count) k =
     none-brought h (reads-at brings_more false refl refl refl refl h.command k.code_is)
     (reads-at brings false refl refl refl refl h.command k.code_is)
 carried-size h (WritePio lba count) k =
-    all-brought h count (writes-at brings_more true refl refl refl refl h.command k.code_is)
-    (writes-at writes_more true refl refl refl refl h.command k.code_is) k.count
+    all-brought h count (writes-at brings_more true refl refl refl refl refl h.command k.code_is)
+    (writes-at writes_more true refl refl refl refl refl h.command k.code_is) k.count
 carried-size h (Verify lba count) k =
     none-brought h (verifies-at brings_more false refl refl h.command k.code_is)
     (verifies-at brings false refl refl h.command k.code_is)
@@ -124,8 +125,8 @@ carried-size h (WriteDma lba count) k =
     (through-at writes_more true refl h.command k.code_is) k.count
 carried-size h (Trim blocks) k = entries-brought h blocks k.trims k.count
 carried-size h (Control control) k =
-    none-brought h (control-at brings_more false refl refl refl refl refl h control k.control_is)
-    (control-at brings false refl refl refl refl refl h control k.control_is)
+    none-brought h (control-at brings_more false refl refl refl refl refl refl refl refl h control k.control_is)
+    (control-at brings false refl refl refl refl refl refl refl refl h control k.control_is)
 carried-size h (ReadQueued lba count) k = absurd k
 carried-size h (WriteQueued lba count) k = absurd k
 carried-size h (ReadDma lba count) k = absurd k
@@ -150,10 +151,10 @@ either-at : (f : ℕ → Bool) (v a b : Bool) (code : ℕ) → (a ≡ true → f
 either-at f v true b code by-a by-b is = by-a refl
 either-at f v false b code by-a by-b is = by-b is
 
-written-at : (f : ℕ → Bool) (v : Bool) → f 0x30 ≡ v → f 0x34 ≡ v → f 0xc5 ≡ v → f 0x39 ≡ v → f 0x3d ≡ v → f 0x06 ≡ v
+written-at : (f : ℕ → Bool) (v : Bool) → f 0x30 ≡ v → f 0x34 ≡ v → f 0xc5 ≡ v → f 0x39 ≡ v → f 0xce ≡ v → f 0x3d ≡ v → f 0x06 ≡ v
     → (code : ℕ) → brings_more code ≡ true → f code ≡ v
-written-at f v a b c d e g code is =
-    either-at f v _ _ code (λ w. either-at f v _ _ code (writes-at f v a b c d code) (through-at f v e code) w)
+written-at f v a b c d m e g code is =
+    either-at f v _ _ code (λ w. either-at f v _ _ code (writes-at f v a b c d m code) (through-at f v e code) w)
     (at-code f v code 0x06 g) is
 
 no-command : (h : RegH2d) → h.is_command ≡ false → fault_of h ≡ Some NotCommand
@@ -179,8 +180,8 @@ not-by-field h x writes g = by h.is_command refl
     by false is = no-ok (sym (refused h NotCommand (no-command h is) (none-beside h is)) ∙ g)
     by true is =
         no-ok (sym (refused h Unknown
-        (unknown-code h is (written-at is_known_code false refl refl refl refl refl refl h.command writes))
-        (beside-none h is (written-at is_beside false refl refl refl refl refl refl h.command writes))) ∙ g)
+        (unknown-code h is (written-at is_known_code false refl refl refl refl refl refl refl h.command writes))
+        (beside-none h is (written-at is_beside false refl refl refl refl refl refl refl h.command writes))) ∙ g)
 
 as-many : (h : RegH2d) (x : Command × Option ℕ) → ◌≡◌ {A = Result (Command × Option ℕ) CommandError} (reading_in Field h) (Ok x)
     → payload_length_in Opal h ≡ payload_length_in Field h

@@ -4,7 +4,7 @@ use Rattle.fis.specs.declared.h2d.RegH2d.{RegH2d}
 use Rattle.trusted_cmds.specs.declared.command.Command.{Command}
 use Rattle.trusted_cmds.specs.declared.command.Command.TheVariants.{ReadQueued, WriteQueued, ReadDma, WriteDma, Send, Receive, Identify, ReadLog10, Flush, SetFeatures, ReadLog, ReadPio, WritePio, Verify, Trim, Control}
 use Rattle.trusted_cmds.specs.declared.control.Control as controls
-use Rattle.trusted_cmds.specs.declared.control.Control.TheVariants.{SetMultiple, Idle, CheckPowerMode, Diagnose}
+use Rattle.trusted_cmds.specs.declared.control.Control.TheVariants.{SetMultiple, Idle, Standby, CheckPowerMode, Diagnose}
 use Rattle.trusted_cmds.specs.declared.feature.Feature.{Feature}
 use Rattle.trusted_cmds.specs.declared.feature.Feature.TheVariants.{WriteCache, ReadLookAhead, TransferMode}
 use Rattle.trusted_cmds.specs.declared.log_pages.LogPages.{LogPages}
@@ -365,12 +365,15 @@ data_set_management = 0x06
 abbrev pub trim_bit : ℕ
 trim_bit = 1
 
--- SET MULTIPLE MODE, IDLE IMMEDIATE, CHECK POWER MODE, EXECUTE DEVICE DIAGNOSTIC.
+-- SET MULTIPLE MODE, IDLE IMMEDIATE, STANDBY IMMEDIATE, CHECK POWER MODE, EXECUTE DEVICE DIAGNOSTIC.
 abbrev pub set_multiple : ℕ
 set_multiple = 0xc6
 
 abbrev pub idle_immediate : ℕ
 idle_immediate = 0xe1
+
+abbrev pub standby_immediate : ℕ
+standby_immediate = 0xe0
 
 abbrev pub check_power_mode : ℕ
 check_power_mode = 0xe5
@@ -385,6 +388,7 @@ sectors_in_block = 1
 abbrev pub control_code : controls.Control → ℕ
 control_code SetMultiple = set_multiple
 control_code Idle = idle_immediate
+control_code Standby = standby_immediate
 control_code CheckPowerMode = check_power_mode
 control_code Diagnose = execute_diagnostic
 

@@ -1,16 +1,16 @@
 -- What the opal profile reads beside: the commands that every ATA device has (ACS-3, General feature set), those of the
--- Power Management feature set that leave a device active, and WRITE DMA FUA EXT.
+-- Power Management feature set, WRITE DMA FUA EXT and WRITE MULTIPLE FUA EXT.
 use Rattle.std.specs.Prelude.{◌≡◌, ℕ, ◌%◌, ◌==◌, Bool, true, false, not, ◌&&◌, ◌||◌, Option, Some, None, option_map, if◌then◌else◌}
 use Rattle.fis.specs.declared.h2d.RegH2d.{RegH2d}
 use Rattle.trusted_cmds.specs.declared.command.Command.{Command}
 use Rattle.trusted_cmds.specs.declared.command.Command.TheVariants.{WriteDma, ReadPio, WritePio, Verify, Trim, Control}
 use Rattle.trusted_cmds.specs.declared.control.Control as controls
-use Rattle.trusted_cmds.specs.declared.control.Control.TheVariants.{SetMultiple, Idle, CheckPowerMode, Diagnose}
+use Rattle.trusted_cmds.specs.declared.control.Control.TheVariants.{SetMultiple, Idle, Standby, CheckPowerMode, Diagnose}
 use Rattle.trusted_cmds.specs.Trims.{are_trim_blocks}
-use Rattle.trusted_cmds.specs.Commands.{sectors, has_lba_bit, short_lba, short_sectors, read_sectors_ext, write_sectors_ext, verify_sectors_ext, data_set_management, trim_bit, set_multiple, idle_immediate, check_power_mode, execute_diagnostic, sectors_in_block}
+use Rattle.trusted_cmds.specs.Commands.{sectors, has_lba_bit, short_lba, short_sectors, read_sectors_ext, write_sectors_ext, verify_sectors_ext, data_set_management, trim_bit, set_multiple, idle_immediate, standby_immediate, check_power_mode, execute_diagnostic, sectors_in_block}
 
 -- The codes (ACS-3, "Command codes") beside those by which the commands are written: of 28 bits, of READ and WRITE MULTIPLE,
--- IDLE, and WRITE DMA FUA EXT.
+-- IDLE, STANDBY and SLEEP, WRITE DMA FUA EXT and WRITE MULTIPLE FUA EXT.
 abbrev pub read_sectors : ℕ
 read_sectors = 0x20
 
@@ -29,6 +29,9 @@ write_multiple = 0xc5
 abbrev pub write_multiple_ext : ℕ
 write_multiple_ext = 0x39
 
+abbrev pub write_multiple_fua : ℕ
+write_multiple_fua = 0xce
+
 abbrev pub verify_sectors : ℕ
 verify_sectors = 0x40
 
@@ -37,6 +40,12 @@ write_dma_fua = 0x3d
 
 abbrev pub idle_by_timer : ℕ
 idle_by_timer = 0xe3
+
+abbrev pub standby_by_timer : ℕ
+standby_by_timer = 0xe2
+
+abbrev pub sleep : ℕ
+sleep = 0xe6
 
 -- Which transfer a code asks for.
 abbrev pub reads_pio : ℕ → Bool
@@ -47,7 +56,7 @@ reads_pio code =
 abbrev pub writes_pio : ℕ → Bool
 writes_pio code =
     code == write_sectors || code == write_sectors_ext || code == write_multiple
-    || code == write_multiple_ext
+    || code == write_multiple_ext || code == write_multiple_fua
 
 abbrev pub verifies : ℕ → Bool
 verifies code = code == verify_sectors || code == verify_sectors_ext
@@ -90,10 +99,13 @@ pub record IsMoving (h : RegH2d) (is_code : Bool) (first sectors_asked : ℕ) : 
   pub count : sectors_moved h ≡ sectors_asked
   pub device : has_lba_bit h.device ≡ true
 
--- SET MULTIPLE MODE has the sectors of a block in Count 7:0.
+-- SET MULTIPLE MODE has the sectors of a block in Count 7:0. SLEEP asks for standby: the interface of this drive never
+-- sleeps (ACS-3, SLEEP; after a reset such a drive would be in standby).
 abbrev pub names_control : controls.Control → RegH2d → Bool
 names_control SetMultiple h = h.command == set_multiple && h.count % 256 == sectors_in_block
 names_control Idle h = h.command == idle_immediate || h.command == idle_by_timer
+names_control Standby h =
+    h.command == standby_immediate || h.command == standby_by_timer || h.command == sleep
 names_control CheckPowerMode h = h.command == check_power_mode
 names_control Diagnose h = h.command == execute_diagnostic
 
@@ -126,8 +138,10 @@ abbrev pub control_named : RegH2d → Option controls.Control
 control_named h =
     if h.command == set_multiple && h.count % 256 == sectors_in_block then Some SetMultiple
     else (if h.command == idle_immediate || h.command == idle_by_timer then Some Idle
+    else (if h.command == standby_immediate || h.command == standby_by_timer || h.command == sleep
+    then Some Standby
     else (if h.command == check_power_mode then Some CheckPowerMode
-    else (if h.command == execute_diagnostic then Some Diagnose else None)))
+    else (if h.command == execute_diagnostic then Some Diagnose else None))))
 
 abbrev pub moving : RegH2d → Command
 moving h =

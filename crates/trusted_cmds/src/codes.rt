@@ -53,6 +53,8 @@ pub(crate) const SHORT_READ_DMA: u8 = 0xc8;
 
 pub(crate) const SHORT_WRITE_DMA: u8 = 0xca;
 
+pub(crate) const WRITE_MULTIPLE_FUA: u8 = 0xce;
+
 pub(crate) const SHORT_FLUSH_CACHE: u8 = 0xe7;
 
 pub(crate) const FLUSH_CACHE: u8 = 0xea;
@@ -133,6 +135,7 @@ pub(crate) fn writes_pio(command: u8) -> bool
         || command == WRITE_SECTORS_EXT
         || command == WRITE_MULTIPLE
         || command == WRITE_MULTIPLE_EXT
+        || command == WRITE_MULTIPLE_FUA
 }
 
 /// Whether a command code is one of those that verify sectors.

@@ -23,7 +23,7 @@ active_law o before (Unheard tag) = refl
 active_law o before (Fetched tag fis payload arrival) =
     let f = facts o (log o (acts_of o before)) in
     let event = event_by f (Accept fis payload) in
-    fetched_same arrival tag (regs_of o before)
+    fetched_same arrival tag (regs_of o before) f.settings
     event.failed (is_holding event.deed) (command_read f.config (h2d_at fis))
     ((length payload + length (drive_effect o (account o before) (Accept fis payload)).bytes) / block_size)
     (drive_effect o (account o before) (Accept fis payload)).fises (effect_after o (account o before) (Accept fis payload)).fises refl refl

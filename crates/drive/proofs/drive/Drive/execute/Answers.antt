@@ -10,20 +10,20 @@ use Rattle.history.specs.Facts.{Facts, facts}
 use Rattle.history.specs.History.{log}
 use Rattle.drive.specs.Decision.{executed, is_for_stack}
 use Rattle.drive.specs.State.{KeepsDrive}
-use Rattle.drive.proofs.Keeping.{seen-is, nothing-keeps, mended-keeps, chosen-keeps}
+use Rattle.drive.proofs.Keeping.{seen-is, nothing-keeps, mended-keeps, chosen-keeps, power_after-keeps}
 use Rattle.trusted_cmds.specs.Commands.{is_protocol_list}
 use Rattle.drive.proofs.Acting.{protocols-keeps, certificates-keeps, certificates-data, received-data}
 use Rattle.drive.proofs.drive.Drive.execute.Goals as goal
 
-pub returns-in_ok-bytes-in-Receive-clause-kept : goal.returns-in_ok-bytes-in-Receive-clause-kept
-returns-in_ok-bytes-in-Receive-clause-kept c = λ o acts k.
+pub returns-in_ok-received-in-Receive-clause-kept : goal.returns-in_ok-received-in-Receive-clause-kept
+returns-in_ok-received-in-Receive-clause-kept c = λ o acts k.
     subst (λ (x : Command). KeepsDrive c.received.new.self o (executed (facts o (log o acts)) c.args.payload.now x ∷ log o acts)) (sym c.in-Receive.is)
-    (c.in_ok-bytes-in-Receive.ensures.kept o (log o acts) c.in-Receive.blocks (ap (λ (n : ℕ). sector_size * n) c.from-room.ensures) k)
+    (c.in_ok-received-in-Receive.ensures.kept o (log o acts) c.in-Receive.blocks (ap (λ (n : ℕ). sector_size * n) c.from-room.ensures) k)
 
-pub returns-in_ok-bytes-in-Receive-clause-data : goal.returns-in_ok-bytes-in-Receive-clause-data
-returns-in_ok-bytes-in-Receive-clause-data c = λ o acts k.
-    subst (λ (x : Command). c.in_ok-bytes-in-Receive.bytes.items ≡ data_of (facts o (log o acts)) x) (sym c.in-Receive.is)
-    (c.in_ok-bytes-in-Receive.ensures.data o acts k ∙ ap (λ (n : ℕ). receive_data (facts o (log o acts)) c.in-Receive.sp_specific (sector_size * n)) c.from-room.ensures
+pub returns-in_ok-received-in-Receive-clause-data : goal.returns-in_ok-received-in-Receive-clause-data
+returns-in_ok-received-in-Receive-clause-data c = λ o acts k.
+    subst (λ (x : Command). c.in_ok-received-in-Receive.field-0.items ≡ data_of (facts o (log o acts)) x) (sym c.in-Receive.is)
+    (c.in_ok-received-in-Receive.ensures.data o acts k ∙ ap (λ (n : ℕ). receive_data (facts o (log o acts)) c.in-Receive.sp_specific (sector_size * n)) c.from-room.ensures
     ∙ received-data c.args.self.now o (log o acts) c.in-Receive.protocol c.in-Receive.sp_specific c.in-Receive.blocks c.in-Receive.dma
     (ap is_protocol_list (sym c.in-Receive.is) ∙ sym c.is_protocol_list.ensures ∙ c.if-is_protocol_list.false)
     (ap (is_for_stack c.args.self.now.tper.store.config.profile) (sym c.in-Receive.is) ∙ c.requires.apart)
@@ -51,8 +51,8 @@ returns-in-Flush-clause-kept c = λ o acts k.
 
 pub returns-in-Control-clause-kept : goal.returns-in-Control-clause-kept
 returns-in-Control-clause-kept c = λ o acts k.
-    subst (λ (x : Command). KeepsDrive c.args.self.now o (executed (facts o (log o acts)) c.args.payload.now x ∷ log o acts)) (sym c.in-Control.is)
-    (nothing-keeps c.args.self.now o (log o acts) _ refl k)
+    subst (λ (x : Command). KeepsDrive c.set_power.new.self o (executed (facts o (log o acts)) c.args.payload.now x ∷ log o acts)) (sym c.in-Control.is)
+    (power_after-keeps c.args.self.now c.set_power.new.self o (log o acts) c.in-Control.control c.set_power.ensures k)
 
 pub returns-in-SetFeatures-clause-kept : goal.returns-in-SetFeatures-clause-kept
 returns-in-SetFeatures-clause-kept c = λ o acts k.
@@ -81,8 +81,8 @@ returns-then-asks_certificates-clause-kept c = λ o acts k.
 
 pub returns-then-asks_certificates-clause-data : goal.returns-then-asks_certificates-clause-data
 returns-then-asks_certificates-clause-data c = λ o acts k.
-    subst (λ (x : Command). c.in_ok-told-in-Receive.told.items ≡ data_of (facts o (log o acts)) x) (sym c.in-Receive.is)
-    (c.in_ok-told-in-Receive.ensures ∙ ap (λ (n : ℕ). sized (sector_size * n) certificate_data) c.from-room.ensures
+    subst (λ (x : Command). c.in_ok-certificates-in-Receive.field-0.items ≡ data_of (facts o (log o acts)) x) (sym c.in-Receive.is)
+    (c.in_ok-certificates-in-Receive.ensures ∙ ap (λ (n : ℕ). sized (sector_size * n) certificate_data) c.from-room.ensures
     ∙ certificates-data c.args.self.now o (log o acts) c.in-Receive.protocol c.in-Receive.sp_specific c.in-Receive.blocks c.in-Receive.dma
     (ap is_protocol_list (sym c.in-Receive.is) ∙ sym c.is_protocol_list.ensures ∙ c.if-is_protocol_list.false)
     (ap (is_for_stack c.args.self.now.tper.store.config.profile) (sym c.in-Receive.is) ∙ c.requires.apart)
