@@ -510,7 +510,7 @@ block-keeps d e o past block tper queue chosen media k =
     (λ s. ap (λ (m : StoredSectors). sector_at m s) media) k
 
 -- the data of an unqueued transfer
-moved-data : (d : DriveState) (f : Facts) (way : Way) (op : Op) (lba count : ℕ) (shadowed : Bool)
+pub moved-data : (d : DriveState) (f : Facts) (way : Way) (op : Op) (lba count : ℕ) (shadowed : Bool)
     → verdict_of (ranges_of d.tper) op lba count ≡ (if shadowed then Shadow else Serve)
     → moved_bytes (kept_facts d f) way (record { transfer = transfer_by op lba count; is_shadowed = shadowed })
     ≡ data_of (kept_facts d f) (unqueued_command way (transfer_by op lba count))
@@ -520,7 +520,7 @@ moved-data d f ways.Pio Read lba count shadowed v = sym (ap (read_by (kept_facts
 moved-data d f ways.Pio Write lba count shadowed v = refl
 moved-data d f ways.Verify op lba count shadowed v = refl
 
-moves-succeeds : (op : Op) (lba count : ℕ) (payload : List ℕ) → Succeeds (did (transfer_deed (transfer_by op lba count) payload))
+pub moves-succeeds : (op : Op) (lba count : ℕ) (payload : List ℕ) → Succeeds (did (transfer_deed (transfer_by op lba count) payload))
 moves-succeeds Read lba count payload = (refl, refl)
 moves-succeeds Write lba count payload = (refl, refl)
 

@@ -508,38 +508,6 @@ impl Drive {
         Ok(())
     }
 
-    /// [`Drive::accept_into`] of a FIS whose fields were read, so that they are not read again.
-    ///
-    /// # Errors
-    ///
-    /// Want of memory, and then the drive and the answer are as before.
-    #[inline(always)]
-    pub fn accept_command(
-        &mut self,
-        fis: &[u8; H2D_LENGTH],
-        h: &RegH2d,
-        payload: &[u8],
-        answer: &mut Accepted,
-    ) -> Result<(), AllocError>
-        requires kind { slice_index fis.now 0 ≡ h2d_type }
-        requires read { h.now ≡ h2d_at fis.now }
-        requires payload { length payload.now ≡ payload_of self.old.tper.store.config fis.now }
-        ensures agrees { OnOk result ((o : Origin) (acts : List Act) → Agrees self.old o acts
-            → Agrees self.new o (Accept fis.now payload.now ∷ acts)) }
-        ensures in_order { OnOk result ((o : Origin) (acts : List Act)
-            → AgreesInOrder self.old o acts
-            → AgreesInOrder self.new o (acts ++ Accept fis.now payload.now ∷ [])) }
-        ensures answer { OnOk result ((o : Origin) (acts : List Act)
-            → Agrees self.old o acts
-            → IsAnswer (facts o (log o acts)) (h2d_at fis.now)
-            (event o (log o acts) (Accept fis.now payload.now)) answer.new) }
-        ensures err { OnErr result (self.new ≡ self.old) }
-        ensures unsaid { OnErr result (answer.new ≡ answer.old) }
-    {
-        self.take_command(fis, h, payload, answer)?;
-        Ok(())
-    }
-
     /// Decides on a FIS, and does it.
     #[inline(always)]
     fn take(
@@ -560,63 +528,7 @@ impl Drive {
             answer.set_failed(ABORTED, Objection::by(Rule::NoCommand));
             return Ok(());
         }
-        self.take_command(fis, &RegH2d::read(fis), payload, answer)?;
-        Ok(())
-    }
-
-    /// Decides on a command, and does it.
-    #[inline(always)]
-    fn take_command(
-        &mut self,
-        fis: &[u8; H2D_LENGTH],
-        h: &RegH2d,
-        payload: &[u8],
-        answer: &mut Accepted,
-    ) -> Result<(), AllocError>
-        requires kind { slice_index fis.now 0 ≡ h2d_type }
-        requires read { h.now ≡ h2d_at fis.now }
-        requires payload { length payload.now ≡ payload_of self.old.tper.store.config fis.now }
-        ensures done { OnOk result ((o : Origin) (acts : List Act) → Agrees self.old o acts
-            → IsDoneAndAnswered (facts o (log o acts)) (h2d_at fis.now)
-            (event o (log o acts) (Accept fis.now payload.now)) self.new o (log o acts)
-            answer.new) }
-        ensures err { OnErr result (self.new ≡ self.old) }
-        ensures unsaid { OnErr result (answer.new ≡ answer.old) }
-    {
-        // Most commands are queued transfers that are held: no decision is put together for them.
-        if let Some((tag, held)) = self.held_at_once(h) {
-            self.hold_so(fis, h, tag, held, payload, answer);
-            return Ok(());
-        }
-        let decision = self.decide(h);
-        self.carry(fis, h, decision, payload, answer)
-    }
-
-    /// Does what was decided on a command.
-    #[inline(always)]
-    fn carry(
-        &mut self,
-        fis: &[u8; H2D_LENGTH],
-        h: &RegH2d,
-        decision: Decision,
-        payload: &[u8],
-        answer: &mut Accepted,
-    ) -> Result<(), AllocError>
-        requires kind { slice_index fis.now 0 ≡ h2d_type }
-        requires read { h.now ≡ h2d_at fis.now }
-        requires payload { length payload.now ≡ payload_of self.old.tper.store.config fis.now }
-        requires event { (f : Facts) (bytes : List ℕ) → decision_event
-            (kept_facts self.old f) bytes decision
-            ≡ commanded (kept_facts self.old f) h.now bytes }
-        requires due { IsDue self.old h.now decision }
-        ensures done { OnOk result ((o : Origin) (acts : List Act) → Agrees self.old o acts
-            → IsDoneAndAnswered (facts o (log o acts)) (h2d_at fis.now)
-            (event o (log o acts) (Accept fis.now payload.now)) self.new o (log o acts)
-            answer.new) }
-        ensures err { OnErr result (self.new ≡ self.old) }
-        ensures unsaid { OnErr result (answer.new ≡ answer.old) }
-    {
-        self.act(h, decision, payload, answer)?;
+        self.take_command(fis, &RegH2d::read(fis), payload, answer, false)?;
         Ok(())
     }
 

@@ -122,17 +122,15 @@ denied_so heard o a (Unheard tag) h = ap denial_heard h
 denied_so heard o a (Completed tag payload arrival) h = ap denial_heard h
 
 -- Of a command that is told, what denied it.
-pub turn_denied : {M : Type 0} (does : M → Access → M → Type 0) (old : State) (before : M) (new last : State)
-    (after : M) (turned : TurnedHeard) (less : Turned) → last ≡ new → less.work ≡ turned.work
-    → less.done ≡ turned.done → less.denied ≡ denial_heard turned.heard
-    → HearsTo does old before new after turned → TurnsTo does old before last after less
-turn_denied does old before new last after turned less e w d n t =
-    subst (λ (s : State). TurnsTo does old before s after less) (sym e)
-    (subst (λ (work : Work). TurnsBy does work old before new after less.done (TellsDenial less.denied)) (sym w)
-    (subst (λ (done : Done). TurnsBy does turned.work old before new after done (TellsDenial less.denied)) (sym d)
-    (subst (λ (why : Option Why). TurnsBy does turned.work old before new after turned.done (TellsDenial why)) (sym n)
-    (turn_less does (IsWork turned.work) old before new after turned.done (IsHeard turned.heard)
-    (TellsDenial (denial_heard turned.heard)) (denied_so turned.heard) t))))
+pub turn_tells : {M : Type 0} (does : M → Access → M → Type 0) (old : State) (before : M) (new last : State)
+    (after : M) (work : Work) (done : Done) (heard : Option Heard) (why : Option Why) → last ≡ new
+    → why ≡ denial_heard heard → TurnsBy does work old before new after done (IsHeard heard)
+    → TurnsBy does work old before last after done (TellsDenial why)
+turn_tells does old before new last after work done heard why e n t =
+    subst (λ (s : State). TurnsBy does work old before s after done (TellsDenial why)) (sym e)
+    (subst (λ (w : Option Why). TurnsBy does work old before new after done (TellsDenial w)) (sym n)
+    (turn_less does (IsWork work) old before new after done (IsHeard heard)
+    (TellsDenial (denial_heard heard)) (denied_so heard) t))
 
 -- Nothing more is asked.
 pub turn_missed : {M : Type 0} (does : M → Access → M → Type 0)

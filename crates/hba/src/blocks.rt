@@ -34,14 +34,12 @@ fn all_of_last_block(fises: &ArrayVec<Fis, 2>, blocks: usize) -> ArrayVec<Fis, 2
     told
 }
 
-/// The FISes of a command, with the data that came with it or that it gives. A D2H Register FIS alone stays as it is.
-pub(crate) fn by_blocks(fises: ArrayVec<Fis, 2>, brought: &[u8], given: &[u8]) -> ArrayVec<Fis, 2>
-    ensures { result.items
-        ≡ map (of_last_block ((length brought.now + length given.now) / block_size))
-        fises.items }
+/// The FISes of a command of which so many bytes move, to the drive or from it. A D2H Register FIS alone stays as it is.
+pub(crate) fn by_blocks(fises: ArrayVec<Fis, 2>, moved: usize) -> ArrayVec<Fis, 2>
+    ensures { result.items ≡ map (of_last_block (moved / block_size)) fises.items }
 {
     if let [Fis::D2h(_)] = fises.as_slice() {
         return fises;
     }
-    all_of_last_block(&fises, (brought.len() + given.len()) / BLOCK)
+    all_of_last_block(&fises, moved / BLOCK)
 }

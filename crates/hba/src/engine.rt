@@ -7,14 +7,15 @@ ghost use Rattle.host_memory.specs.Memory.{Gathers, brought_as, moved_by};
 ghost use Rattle.hba.specs.Engine.{signature_fis};
 
 use crate::blocks::by_blocks;
+use crate::gift::Gift;
 use crate::hba::{Hba, one_more};
 use crate::work::{Done, Heard, Outcome, Work, fault_of};
-use drive::{Accepted, Completed, DriveError};
+use drive::{Accepted, Completed, DriveError, Run};
 use fis::{Fis, H2D_LENGTH, Lba, RegD2h, RegH2d, Tag};
 use host_memory::hba_memory::{
     Arrival, Header, Miss, Moved, Place, deliver, gather, header_by, is_command, post_all,
 };
-use host_memory::{HostMemory, read_array};
+use host_memory::{HostMemory, Source, read_array};
 use std::alloc::AllocError;
 use std::mem::replace;
 
@@ -56,6 +57,7 @@ impl Hba {
     ghost use Rattle.fis.specs.H2d.{h2d_at};
     ghost use Rattle.fis.specs.Types.{h2d_type};
     ghost use Rattle.drive.specs.Answers.{fises_in, fises_done};
+    ghost use Rattle.drive.specs.Lending.{given_bytes, HaveRun};
     ghost use Rattle.drive.specs.Queue.{held_at};
     ghost use Rattle.hba.specs.History.{Operation, Completed as CompletedTag, Signed, Missed, AgreesHba, HasActed, Adds, account, acts_of, drive_effect, effect_after, IsHeard};
     ghost use Rattle.hba.specs.Showing.{fetching, fault_of, arrived};
@@ -70,7 +72,7 @@ impl Hba {
         h: &RegH2d,
         payload: &[u8],
         answer: &mut Accepted,
-    ) -> Result<(), AllocError>
+    ) -> Result<Option<Run>, AllocError>
         requires kind { slice_index fis.now 0 ≡ h2d_type }
         requires read { h.now ≡ h2d_at fis.now }
         requires payload { length payload.now
@@ -78,10 +80,13 @@ impl Hba {
         ensures acted { OnOk result ((o : Origin) (list : List Operation)
             → AgreesHba self.old o list
             → HasActed self.new o (Accept fis.now payload.now ∷ acts_of o list)) }
-        ensures effect { OnOk result ((o : Origin) (list : List Operation)
+        ensures effect { IfOk result (λ lent. (o : Origin) (list : List Operation)
             → AgreesHba self.old o list
             → IsEffect (drive_effect o (account o list) (Accept fis.now payload.now))
-            (fises_in answer.new) answer.new.bytes.items) }
+            (fises_in answer.new)
+            (given_bytes self.new.drive.media lent answer.new.bytes.items)) }
+        ensures there { IfOk result (λ lent.
+            HaveRun self.new.drive.tper.store.config.sectors lent) }
         ensures denied { OnOk result ((o : Origin) (list : List Operation)
             → AgreesHba self.old o list
             → answer.new.denied
@@ -93,9 +98,17 @@ impl Hba {
         ensures registers { self.new.registers ≡ self.old.registers }
         ensures err { OnErr result (self.new ≡ self.old) }
     {
-        self.drive.accept_command(fis, h, payload, answer)?;
+        let lent = self.drive.accept_lending(fis, h, payload, answer)?;
         self.acts = one_more(self.acts);
-        Ok(())
+        Ok(lent)
+    }
+
+    /// What an answer of the drive gives, as bytes for the host's memory.
+    fn gift<'a>(&'a self, lent: Option<Run>, bytes: &'a [u8]) -> Gift<'a>
+        requires { HaveRun self.now.drive.tper.store.config.sectors lent }
+        ensures { result.given ≡ given_bytes self.now.drive.media lent bytes.now }
+    {
+        Gift::of(self.drive.given(lent, bytes))
     }
 
     /// The drive completes what it holds under a tag.
@@ -244,11 +257,11 @@ impl Hba {
         };
         let mut answer = Accepted::none(self.alloc);
         let payload = room.as_slice();
-        self.take(fis, &header, payload, &mut answer)?;
-        let bytes = answer.bytes.as_slice();
-        let told = by_blocks(answer.fises(), payload, bytes);
+        let lent = self.take(fis, &header, payload, &mut answer)?;
+        let gift = self.gift(lent, answer.bytes.as_slice());
+        let told = by_blocks(answer.fises(), payload.len() + gift.len());
         let fises = told.as_slice();
-        let delivered = deliver(memory, place, brought, fises, bytes);
+        let delivered = deliver(memory, place, brought, fises, &gift);
         self.note_fetch(tag);
         let done = self.show(tag, fises, delivered);
         self.give_back(answer.bytes);
@@ -331,7 +344,7 @@ impl Hba {
         let completed = self.finish(tag, room)?;
         let told = completed.fises();
         let (fises, bytes) = (told.as_slice(), completed.bytes.as_slice());
-        let delivered = deliver(memory, place, brought, fises, bytes);
+        let delivered = deliver(memory, place, brought, fises, &bytes);
         let done = self.show(tag, fises, delivered);
         self.give_back(completed.bytes);
         Ok(Outcome { done, heard: None })

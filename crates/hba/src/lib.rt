@@ -3,6 +3,7 @@
 
 mod blocks;
 mod engine;
+mod gift;
 mod hba;
 mod laws;
 mod registers;

@@ -35,6 +35,24 @@ impl Hba {
         })
     }
 
+    /// The engine does a piece of work that may be done, and tells what denied its command alone.
+    fn advance<M: HostMemory>(&mut self, work: Work, memory: &mut M) -> Result<Turned, AllocError>
+        requires { is_ready_on self.old work ≡ true }
+        ensures done { IfOk result (λ t. TurnsTo M.does self.old memory.old self.new memory.new t) }
+        ensures work { IfOk result (λ t. t.work ≡ work) }
+        ensures refused { OnErr result (takes_memory work ≡ true) }
+        ensures err { OnErr result (self.new ≡ self.old) }
+        ensures kept { OnErr result (OnlyReads M.does memory.old memory.new) }
+    {
+        let outcome = self.act(&work, memory)?;
+        let denied = self.denial_in(outcome.heard);
+        Ok(Turned {
+            work,
+            done: outcome.done,
+            denied,
+        })
+    }
+
     /// What denied a command that was told; its bytes are taken back.
     fn denial_in(&mut self, heard: Option<Heard>) -> Option<Why>
         ensures denied { result ≡ denial_heard heard }
@@ -43,21 +61,6 @@ impl Hba {
         let heard = heard?;
         self.put_back(heard.payload);
         heard.denied
-    }
-
-    /// A turn with what denied its command alone.
-    fn without_command(&mut self, turned: TurnedHeard) -> Turned
-        ensures work { result.work ≡ turned.work }
-        ensures done { result.done ≡ turned.done }
-        ensures denied { result.denied ≡ denial_heard turned.heard }
-        ensures same { self.new ≡ self.old }
-    {
-        let denied = self.denial_in(turned.heard);
-        Turned {
-            work: turned.work,
-            done: turned.done,
-            denied,
-        }
     }
 
     /// The engine does a piece of work, over the host's memory. It tells how the work went, and what denied the
@@ -80,8 +83,8 @@ impl Hba {
         if !self.is_ready(work) {
             return Err(HbaError::NotReady);
         }
-        match self.proceed(*work, memory) {
-            Ok(turned) => Ok(self.without_command(turned)),
+        match self.advance(*work, memory) {
+            Ok(turned) => Ok(turned),
             Err(AllocError) => Err(HbaError::OutOfMemory),
         }
     }
@@ -138,11 +141,11 @@ impl Hba {
         ensures refused { OnErr result
             (picks_memory (picked choice (ready_on self.old)) ≡ true) }
     {
-        let told = self.turn_heard(choice, memory)?;
-        match told {
-            Some(turned) => Ok(Some(self.without_command(turned))),
-            None => Ok(None),
-        }
+        let Some(work) = self.pick(choice) else {
+            return Ok(None);
+        };
+        let turned = self.advance(work, memory)?;
+        Ok(Some(turned))
     }
 
     /// The engine does the first work that may be done, turn after turn, until none may be. It tells how

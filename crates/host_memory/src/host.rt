@@ -1,7 +1,37 @@
 //! What a host's memory answers.
 
-ghost use Rattle.std.specs.Prelude.{◌≤◌, ◌+◌, length};
+ghost use Rattle.std.specs.Prelude.{◌≡◌, ◌≤◌, ◌+◌, ◌-◌, ℕ, List, length, slice_range};
 ghost use Rattle.host_memory.specs.Access.{Access, Asked, Laid, memory_end, read_answer};
+
+/// Bytes that stand anywhere, and are copied from there to where they are wanted.
+pub trait Source {
+    /// The bytes.
+    ghost bytes: { Self → List ℕ };
+
+    /// How many there are.
+    fn len(&self) -> usize
+        ensures { result ≡ length (bytes self.now) };
+
+    /// Fills `into` with the bytes from a place on.
+    fn fill(&self, from: usize, into: &mut [u8])
+        requires { from + length into.old ≤ length (bytes self.now) }
+        ensures { into.new ≡ slice_range (bytes self.now) from (from + length into.old) };
+}
+
+impl Source for &[u8] {
+    ghost use Rattle.std.specs.Prelude.{ℕ, List};
+
+    ghost bytes = { λ s. s.now };
+
+    fn len(&self) -> usize {
+        let bytes: &[u8] = self;
+        bytes.len()
+    }
+
+    fn fill(&self, from: usize, into: &mut [u8]) {
+        into.copy_from_slice(&self[from..from + into.len()]);
+    }
+}
 
 /// A host's memory, whose bytes have addresses below 4 GiB. It may be a window of bytes, or somebody behind a pipe who
 /// answers each access as he likes: what an access is answered, and what memory is left, is the type's own to say.
@@ -20,4 +50,13 @@ pub trait HostMemory {
     fn write(&mut self, at: u64, bytes: &[u8]) -> bool
         requires { at + length bytes.now ≤ memory_end }
         ensures { does self.old (Laid at bytes.now result) self.new };
+
+    /// Writes bytes of a source at an address, those from a place up to another; false where one of them is no memory,
+    /// and nothing is written then.
+    fn write_from<S: Source>(&mut self, at: u64, source: &S, from: usize, to: usize) -> bool
+        requires order { from ≤ to }
+        requires there { to ≤ length (S.bytes source.now) }
+        requires low { at + (to - from) ≤ memory_end }
+        ensures { does self.old
+            (Laid at (slice_range (S.bytes source.now) from to) result) self.new };
 }

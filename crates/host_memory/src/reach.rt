@@ -1,9 +1,9 @@
 //! Accesses of a host's memory at any address: bytes past 4 GiB are no memory.
 
-ghost use Rattle.std.specs.Prelude.{◌≡◌, ◌+◌, ◌^◌, ◌<◌, nat_le, length};
+ghost use Rattle.std.specs.Prelude.{◌≡◌, ◌≤◌, ◌+◌, ◌-◌, ◌^◌, ◌<◌, nat_le, length, slice_range};
 ghost use Rattle.host_memory.specs.Access.{Asked, Laid, IsAccess, memory_end, read_answer};
 
-use crate::host::HostMemory;
+use crate::host::{HostMemory, Source};
 
 /// The first address that none has.
 const END: u64 = 0x1_0000_0000;
@@ -34,6 +34,26 @@ pub fn write_at<M: HostMemory>(memory: &mut M, at: u64, bytes: &[u8]) -> bool
         return false;
     }
     memory.write(at, bytes)
+}
+
+/// Writes bytes of a source at an address, those from a place up to another; false where one of them is no memory, and
+/// nothing is written then.
+pub fn write_source_at<M: HostMemory, S: Source>(
+    memory: &mut M,
+    at: u64,
+    source: &S,
+    from: usize,
+    to: usize,
+) -> bool
+    requires order { from ≤ to }
+    requires there { to ≤ length (S.bytes source.now) }
+    ensures { IsAccess M.does memory.old
+        (Laid at (slice_range (S.bytes source.now) from to) result) memory.new }
+{
+    if !is_reachable(at, to - from) {
+        return false;
+    }
+    memory.write_from(at, source, from, to)
 }
 
 /// So many bytes at an address; `None` where one of them is no memory.

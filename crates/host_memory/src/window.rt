@@ -1,10 +1,10 @@
 //! A host's memory of bytes that stand at a base address.
 
-ghost use Rattle.std.specs.Prelude.{◌≡◌, ◌≤◌, ◌+◌, ◌-◌, ◌^◌, ◌<◌, length, true};
+ghost use Rattle.std.specs.Prelude.{◌≡◌, ◌≤◌, ◌+◌, ◌-◌, ◌^◌, ◌<◌, length, slice_range, true};
 ghost use Rattle.host_memory.specs.Access.{read_answer};
 ghost use Rattle.host_memory.specs.Window.{is_held, bytes_held_at, bytes_laid};
 
-use crate::host::HostMemory;
+use crate::host::{HostMemory, Source};
 
 /// Bytes of the host's memory, from a base address on. Those that stand past 4 GiB are never reached.
 #[derive(Drop)]
@@ -32,6 +32,31 @@ pub fn copy_from(base: u32, bytes: &[u8], at: u64, into: &mut [u8]) -> bool
     }
     let place = (at - u64::from(base)) as usize;
     into.copy_from_slice(&bytes[place..place + into.len()]);
+    true
+}
+
+/// Writes bytes of a source at an address, those from a place up to another, where they stand among these.
+pub fn copy_source<S: Source>(
+    base: u32,
+    bytes: &mut [u8],
+    at: u64,
+    source: &S,
+    from: usize,
+    to: usize,
+) -> bool
+    requires order { from ≤ to }
+    requires there { to ≤ length (S.bytes source.now) }
+    requires low { at + (to - from) ≤ 0x100000000 }
+    ensures done { result ≡ is_held base bytes.old at (to - from) }
+    ensures bytes { bytes.new
+        ≡ bytes_laid base bytes.old at (slice_range (S.bytes source.now) from to) }
+{
+    let len = to - from;
+    if !is_held(base, bytes, at, len) {
+        return false;
+    }
+    let place = (at - u64::from(base)) as usize;
+    source.fill(from, &mut bytes[place..place + len]);
     true
 }
 
@@ -83,5 +108,9 @@ impl HostMemory for Window<'_> {
 
     fn write(&mut self, at: u64, bytes: &[u8]) -> bool {
         copy_to(self.base, self.bytes, at, bytes)
+    }
+
+    fn write_from<S: Source>(&mut self, at: u64, source: &S, from: usize, to: usize) -> bool {
+        copy_source(self.base, self.bytes, at, source, from, to)
     }
 }

@@ -1,6 +1,6 @@
 //! The host's memory across a pipe.
 
-ghost use Rattle.std.specs.Prelude.{◌≡◌, ◌≤◌, ◌+◌, false, None, IfOk, length};
+ghost use Rattle.std.specs.Prelude.{◌≡◌, ◌≤◌, ◌+◌, ◌-◌, false, None, IfOk, length, slice_range};
 ghost use Rattle.host_memory.specs.Access.{read_answer, memory_end};
 ghost use Rattle.hba_program.specs.Pipes.{piece_read, piece_written, whole_read, whole_written, most_moved};
 ghost use Rattle.hba_program.specs.Wires.{left_of, SameWriter, SameMarks, Comes, ComesUnlessFailed, Judges};
@@ -8,7 +8,7 @@ ghost use Rattle.hba_program.specs.Wires.{left_of, SameWriter, SameMarks, Comes,
 use crate::hba_lines::{Answer, append_read, append_write, read_answer, write_answer};
 use crate::hba_wire::error::WireError;
 use crate::hba_wire::wire::Wire;
-use host_memory::HostMemory;
+use host_memory::{HostMemory, Source};
 use std::io::{Read, Write};
 
 /// How many bytes move at most by a line.
@@ -136,6 +136,37 @@ impl<'a, R: Read + Drop, W: Write> Wire<'a, R, W> {
         let (front, rest) = bytes.split_at(size);
         self.write_piece(at, front) && self.write_pieces(at + size as u64, rest)
     }
+
+    /// Bytes of a source, those from a place up to another.
+    fn bytes_of<S: Source>(&self, source: &S, from: usize, to: usize) -> Result<Vec<u8>, WireError>
+        requires order { from ≤ to }
+        requires there { to ≤ length (S.bytes source.now) }
+        ensures { IfOk result (λ bytes. bytes.items ≡ slice_range (S.bytes source.now) from to) }
+    {
+        let mut bytes = Vec::new(self.alloc);
+        bytes.resize(to - from, 0)?;
+        source.fill(from, &mut bytes);
+        Ok(bytes)
+    }
+
+    /// Writes bytes of a source by as many lines as it takes, and remembers a failure.
+    fn write_source<S: Source>(&mut self, at: u64, source: &S, from: usize, to: usize) -> bool
+        requires order { from ≤ to }
+        requires there { to ≤ length (S.bytes source.now) }
+        requires low { at + (to - from) ≤ memory_end }
+        ensures comes { ComesUnlessFailed R.remaining W.contents
+            (whole_written at (slice_range (S.bytes source.now) from to))
+            self.old result self.new }
+        ensures same { SameWriter self.old self.new }
+    {
+        match self.bytes_of(source, from, to) {
+            Ok(bytes) => self.write_pieces(at, &bytes),
+            Err(error) => {
+                self.failure = Some(error);
+                false
+            }
+        }
+    }
 }
 
 impl<R: Read + Drop, W: Write> HostMemory for Wire<'_, R, W> {
@@ -149,5 +180,9 @@ impl<R: Read + Drop, W: Write> HostMemory for Wire<'_, R, W> {
 
     fn write(&mut self, at: u64, bytes: &[u8]) -> bool {
         self.write_pieces(at, bytes)
+    }
+
+    fn write_from<S: Source>(&mut self, at: u64, source: &S, from: usize, to: usize) -> bool {
+        self.write_source(at, source, from, to)
     }
 }

@@ -8,7 +8,7 @@ ghost use Rattle.host_memory.specs.Memory.{tells_error, takes_data, data_taken, 
 
 use crate::hba_memory::miss::Miss;
 use crate::hba_memory::reading::{Header, Moved, data_at, data_len};
-use crate::{HostMemory, read_array, write_at};
+use crate::{HostMemory, Source, read_array, write_at, write_source_at};
 use byteorder::{ByteOrder, LittleEndian};
 use fis::Fis;
 use slots::fields::{DESCRIPTOR, received_offset};
@@ -18,33 +18,34 @@ const BYTE_COUNT: u64 = 4;
 
 /// Lays data over the blocks that so many descriptors from an address on name, one after the other. A descriptor is read
 /// where bytes go to its block alone. Gives how they moved, and what was missed behind them.
-fn scatter<M: HostMemory>(
+fn scatter<M: HostMemory, S: Source>(
     memory: &mut M,
     at: u64,
     entries: u16,
-    bytes: &[u8],
+    source: &S,
 ) -> (Moved, Option<Miss>)
     requires { at < 2 ^ 33 }
     ensures talk { (talk : List Access) × Accessed M.does memory.old talk memory.new
-        × Scatters at entries bytes.now talk result.1
+        × Scatters at entries (S.bytes source.now) talk result.1
         × (result.0 ≡ moved_by talk (written_by talk)) }
-    ensures most { result.0.len ≤ length bytes.now }
+    ensures most { result.0.len ≤ length (S.bytes source.now) }
 {
+    let len = source.len();
     let mut moved = Moved::none();
     for k in 0..entries {
-        if moved.len == bytes.len() {
+        if moved.len == len {
             return (moved, None);
         }
         let Some(entry) = read_array(memory, at + DESCRIPTOR as u64 * u64::from(k)) else {
             return (moved, Some(Miss::Table));
         };
-        let end = moved.len + data_len(&entry).min(bytes.len() - moved.len);
-        if !write_at(memory, data_at(&entry), &bytes[moved.len..end]) {
+        let end = moved.len + data_len(&entry).min(len - moved.len);
+        if !write_source_at(memory, data_at(&entry), source, moved.len, end) {
             return (moved, Some(Miss::Block));
         }
         moved = moved.with(&entry, end);
     }
-    if moved.len == bytes.len() {
+    if moved.len == len {
         (moved, None)
     } else {
         (moved, Some(Miss::Overflow))
@@ -236,23 +237,24 @@ fn end<M: HostMemory>(
 
 /// What an act gives reaches the memory: its data over their blocks, as far as the PRDT and the memory go, the count of
 /// the bytes that moved, those that it took of what was brought among them, and its FISes.
-pub fn deliver<M: HostMemory>(
+pub fn deliver<M: HostMemory, S: Source>(
     memory: &mut M,
     place: Place,
     brought: Moved,
     fises: &[Fis],
-    bytes: &[u8],
+    source: &S,
 ) -> Arrival
     requires near { place.at < 2 ^ 40 }
     requires short { brought.len < 2 ^ 63 }
+    requires few { length (S.bytes source.now) < 2 ^ 63 }
     ensures { (talk : List Access) × Accessed M.does memory.old talk memory.new
-        × Delivers place brought fises.now bytes.now talk result }
+        × Delivers place brought fises.now (S.bytes source.now) talk result }
 {
     let (laid, lost) = scatter(
         memory,
         place.header.descriptors(),
         place.header.entries,
-        bytes,
+        source,
     );
     let is_processed = is_processed(fises, brought, laid);
     let moved = data_taken(fises, brought.len) + laid.len;

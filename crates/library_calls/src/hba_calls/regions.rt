@@ -5,7 +5,7 @@ ghost use Rattle.std.specs.List.{list_any};
 ghost use Rattle.library_calls.specs.Regions.{lies_in};
 
 use hba::HostMemory;
-use host_memory::{copy_from, copy_to};
+use host_memory::{Source, copy_from, copy_source, copy_to};
 
 /// A region of the host's memory: the address of its first byte, and how many bytes it has.
 #[repr(C)]
@@ -86,5 +86,10 @@ impl HostMemory for Regions<'_, '_> {
 
     fn write(&mut self, at: u64, bytes: &[u8]) -> bool {
         lies_in_any(self.regions, at, bytes.len()) && copy_to(self.base, self.bytes, at, bytes)
+    }
+
+    fn write_from<S: Source>(&mut self, at: u64, source: &S, from: usize, to: usize) -> bool {
+        lies_in_any(self.regions, at, to - from)
+            && copy_source(self.base, self.bytes, at, source, from, to)
     }
 }

@@ -7,6 +7,6 @@ pub returns-clause-acted : goal.returns-clause-acted
 returns-clause-acted c = λ o list a.
     let b = rw (← c.self.view_is) at a in
     record {
-      drive = c.in_ok-accept_command.ensures.agrees o (acts_of o list) b.acted.drive;
+      drive = c.in_ok-lent.ensures.agrees o (acts_of o list) b.acted.drive;
       count = c.one_more-self-inside.ensures (acts_of o list) (Accept c.args.fis.now c.args.payload.now) b.acted.count;
     }

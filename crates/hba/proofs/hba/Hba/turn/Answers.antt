@@ -1,9 +1,12 @@
--- What denied the command that is told.
-use Rattle.hba.proofs.Turns.{turn_denied}
+-- What is picked may be done, and nothing is picked of nothing alone.
+use Rattle.std.proofs.Common.{sym}
+use Rattle.hba.specs.Ready.{is_ready_on}
+use Rattle.hba.proofs.Works.{none_picked, picked_ready}
 use Rattle.hba.proofs.hba.Hba.turn.Goals as goal
 
-pub returns-in-Some-clause-done : goal.returns-in-Some-clause-done
-returns-in-Some-clause-done g c =
-    let less = c.without_command.ensures in
-    turn_denied g.M.HostMemory.does c.args.self.now c.args.memory.now c.turn_heard.new.self c.without_command.new.self c.turn_heard.new.memory
-    c.in-Some.turned c.without_command.result less.same less.work less.done less.denied (rw c.in-Some.is at c.in_ok-told.ensures.done)
+pub returns-in_default-clause-idle : goal.returns-in_default-clause-idle
+returns-in_default-clause-idle g c = λ none. none_picked _ _ (sym c.in_default.ensures)
+
+pub advance-requires : goal.advance-requires
+advance-requires g c =
+    picked_ready (is_ready_on c.args.self.now) c.args.choice c.in-Some.work (sym c.in-Some.ensures)
