@@ -27,14 +27,12 @@ use Rattle.hba.specs.declared.work.Work.{Work}
 use Rattle.hba.specs.declared.work.Work.TheVariants as works
 use Rattle.hba.specs.declared.work.Done.{Done}
 use Rattle.hba.specs.declared.work.Heard.{Heard}
-use Rattle.hba.specs.declared.work.Turned.{Turned}
-use Rattle.hba.specs.declared.work.TurnedHeard.{TurnedHeard}
 use Rattle.hba.specs.declared.work.Outcome.{Outcome}
 use Rattle.hba.specs.declared.work.Done.TheVariants as dones
 use Rattle.hba.specs.Showing.{fault_of, arrived, fetching}
 use Rattle.hba.specs.History.{Operation, Wrote, Powered, Signed, Missed, Controlled, Asserted, Restarted, Unheard, Fetched, Completed, Account, State, HasActed, AgreesHba, Adds, account, acts_of, regs_of, effect_after, TellsDenial, IsHeard, IsHeardOf, denial_heard}
 use Rattle.hba.specs.Ready.{ready_on, picked}
-use Rattle.hba.specs.Engine.{header_at, fises_at, place_of, IsEffect, ServesSo, Executes, Controls, HearsIf, FetchesIf, FetchesFis, FetchesFrom, Fetches, CompletesFrom, Completes, Signs, signature_fis, IsWork, done_of, TurnsAs, TurnsBy, TurnsTo, HearsTo, HasRun, Runs, HasStopped}
+use Rattle.hba.specs.Engine.{header_at, fises_at, place_of, IsEffect, ServesSo, Executes, Controls, HearsIf, FetchesIf, FetchesFis, FetchesFrom, Fetches, CompletesFrom, Completes, Signs, signature_fis, IsWork, done_of, TurnsAs, TurnsBy, HasRun, Runs, HasStopped}
 use Rattle.hba.proofs.Works.{ready_same}
 
 -- The account of a list, with the registers of an HBA that agrees with it.

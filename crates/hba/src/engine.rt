@@ -15,7 +15,7 @@ use fis::{Fis, H2D_LENGTH, Lba, RegD2h, RegH2d, Tag};
 use host_memory::hba_memory::{
     Arrival, Header, Miss, Moved, Place, deliver, gather, header_by, is_command, post_all,
 };
-use host_memory::{HostMemory, Source, read_array};
+use host_memory::{HostMemory, read_array};
 use std::alloc::AllocError;
 use std::mem::replace;
 
@@ -108,7 +108,9 @@ impl Hba {
         requires { HaveRun self.now.drive.tper.store.config.sectors lent }
         ensures { result.given ≡ given_bytes self.now.drive.media lent bytes.now }
     {
-        Gift::of(self.drive.given(lent, bytes))
+        Gift {
+            given: self.drive.given(lent, bytes),
+        }
     }
 
     /// The drive completes what it holds under a tag.
@@ -259,7 +261,7 @@ impl Hba {
         let payload = room.as_slice();
         let lent = self.take(fis, &header, payload, &mut answer)?;
         let gift = self.gift(lent, answer.bytes.as_slice());
-        let told = by_blocks(answer.fises(), payload.len() + gift.len());
+        let told = by_blocks(answer.fises(), payload.len() + gift.given.len());
         let fises = told.as_slice();
         let delivered = deliver(memory, place, brought, fises, &gift);
         self.note_fetch(tag);

@@ -6,17 +6,7 @@ use host_memory::Source;
 /// What a drive's answer gives.
 #[derive(Drop)]
 pub(crate) struct Gift<'a> {
-    given: Given<'a>,
-}
-
-impl<'a> Gift<'a> {
-    ghost use Rattle.std.specs.Prelude.{◌≡◌};
-
-    pub(crate) fn of(given: Given<'a>) -> Gift<'a>
-        ensures { result.given ≡ given }
-    {
-        Gift { given }
-    }
+    pub(crate) given: Given<'a>,
 }
 
 impl Source for Gift<'_> {

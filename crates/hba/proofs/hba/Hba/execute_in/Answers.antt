@@ -1,5 +1,5 @@
 -- Memory fails before the act, or the drive acts.
-use Rattle.std.proofs.Common.{◌≡◌, ◌+◌, ◌/◌, List, map, length, Some, None, Ok, ap, sym, subst}
+use Rattle.std.proofs.Common.{◌≡◌, ◌+◌, ◌/◌, List, map, length, Some, None, Ok, ap, sym, subst, arith}
 use Rattle.history.specs.Answers.{payload_of}
 use Rattle.history.specs.History.{Accept}
 use Rattle.host_memory.proofs.hba_memory.Talks.{on_err}
@@ -38,14 +38,14 @@ returns-in_err-lent-clause-kept g c =
 pub returns-clause-done : goal.returns-clause-done
 returns-clause-done g c =
     let brought = rw (c.descriptors-at.ensures.value, c.requires.long, c.in-Ok.is, ← c.as_slice-payload.ensures.value) at c.bring.ensures.brings in
-    let moved : c.len.result + c.len-2.result ≡ length c.as_slice-payload.result.now + length c.gift-gift.result.given = omega arith in
-    let told : c.as_slice-fises.result.now ≡ map (of_last_block ((length c.as_slice-payload.result.now + length c.gift-gift.result.given) / block_size)) (fises_in c.take-lent.new.answer) =
+    let moved : length c.as_slice-payload.result.now + c.len.result ≡ length c.as_slice-payload.result.now + length c.gift-gift.result.given = omega arith in
+    let told : c.as_slice-fises.result.now ≡ map (of_last_block ((length c.as_slice-payload.result.now + length c.gift-gift.result.given) / block_size)) (fises_in c.take.new.answer) =
     rw (c.as_slice-fises.ensures.value, ← c.fises.ensures, ← moved) c.by_blocks-told.ensures in
     let given = rw (← c.as_slice.ensures.value, ← c.gift-gift.ensures) at c.in_ok-lent.ensures.effect in
     let gives : (o : Origin) (list : List Operation) → AgreesHba c.args.self.now o list
     → IsEffect (effect_after o (account o list) (Accept c.args.fis.now c.as_slice-payload.result.now)) c.as_slice-fises.result.now c.gift-gift.result.given =
     λ o list a. subst (λ (fs : List Fis). IsEffect (effect_after o (account o list) (Accept c.args.fis.now c.as_slice-payload.result.now)) fs c.gift-gift.result.given) (sym told)
-    (told_effect c.args.fis.now c.as_slice-payload.result.now (drive_effect o (account o list) (Accept c.args.fis.now c.as_slice-payload.result.now)) (fises_in c.take-lent.new.answer) c.gift-gift.result.given (given o list a)) in
+    (told_effect c.args.fis.now c.as_slice-payload.result.now (drive_effect o (account o list) (Accept c.args.fis.now c.as_slice-payload.result.now)) (fises_in c.take.new.answer) c.gift-gift.result.given (given o list a)) in
     turn_kept g.M.HostMemory.does (λ o a. Executes o a c.args.place c.args.tag c.args.fis.now) c.args.self.now c.args.memory.now c.show-done.new.self c.give_back.new.self
     c.deliver-delivered.new.memory c.show-done.result _ c.give_back.ensures
     (executes_as g.M.HostMemory.does c.args.place c.args.tag c.args.fis.now c.args.self.now c.args.memory.now c.show-done.new.self
@@ -58,10 +58,10 @@ returns-clause-done g c =
     c.deliver-delivered.ensures
     (ap (λ (d : Done). Some d) (sym c.show-done.ensures.told))
     gives
-    (adds_fetched c.args.self.now c.take-lent.new.self c.show-done.new.self c.args.tag c.args.fis.now c.as_slice-payload.result.now
+    (adds_fetched c.args.self.now c.take.new.self c.show-done.new.self c.args.tag c.args.fis.now c.as_slice-payload.result.now
     c.as_slice-fises.result.now c.gift-gift.result.given c.deliver-delivered.result
     c.in_ok-lent.ensures.acted gives
-    (shown_fetched c.args.self.now c.take-lent.new.self c.note_fetch.new.self c.show-done.new.self c.args.tag c.as_slice-fises.result.now
+    (shown_fetched c.args.self.now c.take.new.self c.note_fetch.new.self c.show-done.new.self c.args.tag c.as_slice-fises.result.now
     c.deliver-delivered.result c.in_ok-lent.ensures.registers c.note_fetch.ensures c.show-done.ensures.shown))
     (λ o list a. record {
       header = c.requires.read;
