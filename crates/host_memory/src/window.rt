@@ -22,7 +22,10 @@ fn is_held(base: u32, bytes: &[u8], at: u64, len: usize) -> bool
     base <= at && at + len as u64 <= base + bytes.len() as u64
 }
 
-/// Fills with the bytes at an address, where they stand among these.
+/// Fills with the bytes that stand at an address of the host's memory, of which `bytes` are those from `base` on: byte
+/// `at - base` and those behind it. `false` where one of them stands before `base` or behind the last.
+///
+/// A caller sees to it that they end at 4 GiB at most: `at + into.len()` is at most 2^32.
 pub fn copy_from(base: u32, bytes: &[u8], at: u64, into: &mut [u8]) -> bool
     requires { at + length into.old ≤ 0x100000000 }
     ensures { read_answer result into.new ≡ bytes_held_at base bytes.now at (length into.old) }
@@ -35,7 +38,7 @@ pub fn copy_from(base: u32, bytes: &[u8], at: u64, into: &mut [u8]) -> bool
     true
 }
 
-/// Writes bytes of a source at an address, those from a place up to another, where they stand among these.
+/// [`copy_to`] of the bytes of a source, those from a place up to another.
 pub fn copy_source<S: Source>(
     base: u32,
     bytes: &mut [u8],
@@ -60,7 +63,11 @@ pub fn copy_source<S: Source>(
     true
 }
 
-/// Writes bytes at an address, where they stand among these.
+/// Writes bytes at an address of the host's memory, of which `bytes` are those from `base` on: in the place of byte
+/// `at - base` and those behind it. `false` where one of these stands before `base` or behind the last; then nothing is
+/// written.
+///
+/// A caller sees to it that they end at 4 GiB at most: `at + others.len()` is at most 2^32.
 pub fn copy_to(base: u32, bytes: &mut [u8], at: u64, others: &[u8]) -> bool
     requires { at + length others.now ≤ 0x100000000 }
     ensures done { result ≡ is_held base bytes.old at (length others.now) }
