@@ -22,6 +22,7 @@ pub mod OwnBits
 pub mod TaskBits
 pub mod Served
 pub mod Rests
+pub mod Orders
 mod Rows
 mod RowsSoftwareReset
 mod RowsAccess

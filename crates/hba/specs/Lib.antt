@@ -12,3 +12,4 @@ pub mod AccessTypes
 pub mod OwnBits
 pub mod TaskLaws
 pub mod Service
+pub mod Orders

@@ -4,6 +4,7 @@ ghost use Rattle.hba.specs.AccessTypes.{RowsLaw, generic_rows, place_rows, comma
 ghost use Rattle.hba.specs.Blocks.{BlocksLaw, read_setup, write_setup};
 ghost use Rattle.hba.specs.BitLaws.{RunningLaw, IssuedLaw, QueuedLaw, RaisedLaw, ErrorsLaw, ChangesLaw, SignatureLaw};
 ghost use Rattle.hba.specs.Laws.{HostFailureLaw, HostDenialLaw, ActiveLaw, CurrentLaw};
+ghost use Rattle.hba.specs.Orders.{ReadyOrder, FetchOrder, CompletionOrder, ErrorOrder, ArrivalOrder};
 ghost use Rattle.hba.specs.OwnBits.{OwnBitsLaw};
 ghost use Rattle.hba.specs.Service.{ReadServedLaw, WriteServedLaw, HeldReadLaw, HeldWriteLaw, WaitsLaw};
 ghost use Rattle.hba.specs.TaskLaws.{TaskLaw, LinkStatusLaw};
@@ -102,4 +103,19 @@ pub fn laws_of_service()
     ensures held_read { HeldReadLaw }
     ensures held_write { HeldWriteLaw }
     ensures rests { WaitsLaw }
+{}
+
+/// The law of orders, over every origin, every list of operations and every memory: of several things that keep a command
+/// from its act, the first of one list is told.
+///
+/// `ready`: only what is ready is done. `fetched`, `completed`: the operation is that of the first rule that applies, of the
+/// header, the FIS, the software reset, and of the PRDT, descriptor after descriptor; where none applies, the drive acts.
+/// `failed`: its error stands in PxTFD, whatever memory misses behind it. `arrived`: of what memory misses behind an act,
+/// data are told first, then PRDBC, then the places of FISes.
+pub fn laws_of_orders()
+    ensures ready { ReadyOrder }
+    ensures fetched { FetchOrder }
+    ensures completed { CompletionOrder }
+    ensures failed { ErrorOrder }
+    ensures arrived { ArrivalOrder }
 {}

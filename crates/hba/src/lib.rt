@@ -15,7 +15,7 @@ mod work;
 pub use hba::Hba;
 pub use host_memory::{HostMemory, Window};
 pub use laws::{
-    laws_of_access, laws_of_bits, laws_of_blocks, laws_of_failures, laws_of_queues,
+    laws_of_access, laws_of_bits, laws_of_blocks, laws_of_failures, laws_of_orders, laws_of_queues,
     laws_of_service, laws_of_slots, laws_of_writes,
 };
 pub use registers::Registers;
