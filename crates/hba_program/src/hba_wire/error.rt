@@ -28,13 +28,14 @@ impl From<AllocError> for WireError {
 }
 
 impl WireError {
-    ghost use Rattle.std.specs.Prelude.{◌≡◌};
+    ghost use Rattle.std.specs.Prelude.{◌≡◌, ◌⊎◌};
     ghost use Rattle.std.specs.IoError.{error_kind};
     ghost use Rattle.std.specs.declared.io.ErrorKind.TheVariants.{OutOfMemory};
     ghost use Rattle.hba_program.specs.declared.hba_wire.error.WireError.TheVariants.{Memory, Read};
 
     /// The error of a call that reads: its kind decides.
     pub(crate) fn reading(error: io::Error) -> WireError
+        ensures either { (result ≡ Memory) ⊎ (result ≡ Read) }
         ensures memory { error_kind error ≡ OutOfMemory → result ≡ Memory }
         ensures read { (error_kind error ≡ OutOfMemory → ⊥) → result ≡ Read }
     {
