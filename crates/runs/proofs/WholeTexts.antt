@@ -1,10 +1,16 @@
 -- Texts of whole lines.
-use Rattle.std.proofs.Common.{◌≡◌, ◌∙◌, ◌<◌, ℕ, arith, length, Bool, true, false, ◌==◌, List, [], ◌∷◌, ◌++◌, map, refl, sym, ap, append_assoc}
+use Rattle.std.proofs.Common.{◌≡◌, ◌∙◌, ◌<◌, ℕ, arith, length, Bool, true, false, ◌==◌, List, [], ◌∷◌, ◌++◌, map, refl, sym, ap, append_assoc, eqb-true}
 use Rattle.std.proofs.lemmas.List.{map-append}
 use Rattle.std.specs.Prelude.{if◌then◌else◌}
 use Rattle.std.specs.Io.BufRead.{strip_last}
 use Rattle.tool.specs.Scripts.{in_front, lines_of_text, script_lines}
 use Rattle.runs.specs.Stepped.{WholeLines}
+
+-- an empty text has no lines
+pub no_lines : (text : List ℕ) → (length text == 0) ≡ true → script_lines text ≡ []
+unfolding lines_of_text
+no_lines [] none = refl
+no_lines (byte ∷ text) none = let no = eqb-true (length (byte ∷ text)) 0 none in absurd (omega (arith, no))
 
 -- whole lines
 pub none-whole : WholeLines []

@@ -1,5 +1,5 @@
 -- A run of a script whose lines come piece by piece: how far it has come.
-use Rattle.std.specs.Prelude.{◌≡◌, ◌+◌, ℕ, Bool, List, [], ◌∷◌, ◌++◌, ⊤}
+use Rattle.std.specs.Prelude.{◌≡◌, ◌+◌, ℕ, Bool, true, false, List, [], ◌∷◌, ◌++◌, ⊤, Option, None, Some}
 use Rattle.sp_cells.specs.Config.{Config}
 use Rattle.history.specs.Opening.{Origin}
 use Rattle.script_lines.specs.declared.report.Report.{Report}
@@ -8,9 +8,10 @@ use Rattle.drive_scripts.specs.declared.turn.Turn.TheVariants as turns
 use Rattle.tool.specs.Scripts.{ScriptLine, script_lines, kind_of_script, effective_lines, with_numbers, without_remarks}
 use Rattle.tool.specs.Courses.{Course, PhaseRunsOn, PhaseStands}
 use Rattle.tool.specs.Outcomes.{RunOutcome, ends, printed_first, outcome_on, outcome_of_lines}
+use Rattle.tool.specs.Progress.{Steps, step_or_skip}
 use Rattle.tool.specs.declared.phase.Phase.{Phase}
 use Rattle.runs.specs.Recordings.{Recording}
-use Rattle.runs.specs.Progress.{front_recording}
+use Rattle.runs.specs.Progress.{front_recording, line_at}
 use Rattle.runs.specs.declared.recorded.front.Front.{Front}
 use Rattle.runs.specs.declared.recorded.stepped.Stage.{Stage}
 use Rattle.runs.specs.declared.recorded.stepped.Stage.TheVariants.{Untold, InFront, Runs, Ended}
@@ -21,11 +22,31 @@ abbrev pub WholeLines : List ℕ → Type 0
 WholeLines text = (behind : List ℕ)
     → script_lines (text ++ behind) ≡ script_lines text ++ script_lines behind
 
+-- the status that a turn ends the script with, if it does
+abbrev pub script_end : Turn → Option ℕ
+script_end (turns.Goes aborted) = None
+script_end turns.ExpectationFailed = Some 1
+script_end (turns.Bad fault) = Some 2
+
 -- what a turn makes of what ran
+abbrev pub stage_with : Option ℕ → Bool → Phase → Stage
+stage_with None remarks run = Runs remarks run
+stage_with (Some status) remarks run = Ended status
+
 abbrev pub stage_behind : Turn → Bool → Phase → Stage
-stage_behind (turns.Goes aborted) remarks run = Runs remarks run
-stage_behind turns.ExpectationFailed remarks run = Ended 1
-stage_behind (turns.Bad fault) remarks run = Ended 2
+stage_behind turn remarks run = stage_with (script_end turn) remarks run
+
+-- the same of a stage at which something runs
+abbrev pub stage_by : Option ℕ → Stage → Stage
+stage_by None stage = stage
+stage_by (Some status) stage = Ended status
+
+-- something runs
+abbrev pub runs_at : Stage → Bool
+runs_at Untold = false
+runs_at (InFront remarks front) = false
+runs_at (Runs remarks run) = true
+runs_at (Ended status) = false
 
 -- what runs, where something does, is as an origin and a course leave it
 abbrev pub StageStands : Stage → Type 0
@@ -73,6 +94,13 @@ StageLeads explains config lines report (Runs remarks run) comes =
     × ((texts : List (List ℕ)) → comes texts ≡ run_comes remarks o course report lines texts)
 StageLeads explains config lines report (Ended status) comes =
     (texts : List (List ℕ)) → comes texts ≡ printed_first report.pending.items (ends status)
+
+-- a line of this number is done on what runs, which stays
+abbrev pub TurnsInPlace : Stage → ℕ → List ℕ → Report → Turn → Stage → Report → Type 0
+TurnsInPlace old number text before turn new after = (remarks : Bool) × (run : Phase)
+    × (later : Phase) × (old ≡ Runs remarks run) × (new ≡ Runs remarks later)
+    × ((o : Origin) (course : Course) → PhaseRunsOn run o course → Steps turn
+    (step_or_skip remarks o course before.last.items (line_at number text)) later o before after)
 
 -- a line of this number makes a stage of what runs, whatever lines come behind it
 abbrev pub RunMakes : Bool → Phase → ℕ → List ℕ → Report → Stage → Report → Type 0

@@ -13,6 +13,6 @@ mod tries;
 mod words;
 
 pub use answers::printed_text;
-pub use lines::Lines;
+pub use lines::{Lines, first_line};
 pub use plan::{Plan, PlanFault, laws_of_plans};
 pub use script::{explore_script, whole_text};

@@ -55,15 +55,12 @@ first_and_rest text line rest size some is is_line is_rest =
     ∙ ap (λ t. bare line ∷ script_lines t) (sym rest_is)
 
 -- a line more stands in front of what is left
-pub one_more : (lines more : List (List ℕ)) (text first line rest whole : List ℕ) (size : ℕ) → (length text == 0) ≡ false
-    → size ≡ length (take_through 10 text) → first ≡ take size text → rest ≡ drop size text → line ≡ bare first
-    → more ≡ lines ++ line ∷ [] → lines ++ script_lines text ≡ script_lines whole
-    → more ++ script_lines rest ≡ script_lines whole
-one_more lines more text first line rest whole size some is is_first is_rest is_line is_more kept =
+pub one_more : (lines more : List (List ℕ)) (text line rest whole : List ℕ) → script_lines text ≡ line ∷ script_lines rest
+    → more ≡ lines ++ line ∷ [] → lines ++ script_lines text ≡ script_lines whole → more ++ script_lines rest ≡ script_lines whole
+one_more lines more text line rest whole first is_more kept =
     ap (λ ls. ls ++ script_lines rest) is_more
     ∙ append_assoc lines (line ∷ []) (script_lines rest)
-    ∙ ap (λ l. lines ++ l ∷ script_lines rest) is_line
-    ∙ ap (λ ls. lines ++ ls) (sym (first_and_rest text first rest size (some_left text some) is is_first is_rest))
+    ∙ ap (λ ls. lines ++ ls) (sym first)
     ∙ kept
 
 -- what is left is shorter

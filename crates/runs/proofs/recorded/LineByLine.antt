@@ -1,5 +1,6 @@
 -- A run of a script whose lines come piece by piece.
-use Rattle.std.proofs.Common.{◌≡◌, ◌∙◌, ◌<◌, ◌≤◌, ℕ, zero, suc, ◌+◌, arith, length, drop, get_or, Bool, true, false, List, [], ◌∷◌, ◌++◌, refl, sym, ap, subst, append_assoc, append-nil, Result, Ok, Err}
+use Rattle.std.proofs.Common.{◌≡◌, ◌∙◌, ℕ, ◌+◌, Bool, true, false, List, [], ◌∷◌, ◌++◌, refl, sym, ap, subst, append_assoc, append-nil, Option, None, Some, Result, Ok, Err}
+use Rattle.std.proofs.lemmas.Bool.{false≢true}
 use Rattle.std.specs.Prelude.{if◌then◌else◌}
 use Rattle.sp_cells.specs.Config.{Config}
 use Rattle.history.specs.Opening.{Origin}
@@ -15,7 +16,7 @@ use Rattle.tool.specs.declared.opening.OpeningPhase.TheVariants.{Factory}
 use Rattle.tool.specs.declared.phase.Phase.{Phase}
 use Rattle.runs.specs.Recordings.{recording_from, recording_of_lines, stops}
 use Rattle.runs.specs.Progress.{TurnsSo, front_recording, line_at}
-use Rattle.runs.specs.Stepped.{WholeLines, stage_behind, StageStands, outcome_of_texts, outcome_recorded, lines_behind, front_comes, run_comes, StageLeads, RunMakes, FrontMakes, LineMakes, LinesCame, RanTo, RunStands}
+use Rattle.runs.specs.Stepped.{WholeLines, script_end, stage_with, stage_by, stage_behind, runs_at, TurnsInPlace, StageStands, outcome_of_texts, outcome_recorded, lines_behind, front_comes, run_comes, StageLeads, RunMakes, FrontMakes, LineMakes, LinesCame, RanTo, RunStands}
 use Rattle.runs.specs.declared.recorded.front.Front.{Front}
 use Rattle.runs.specs.declared.recorded.front.Front.TheVariants as fronts
 use Rattle.runs.specs.declared.recorded.front.FrontTurn.TheVariants as front_turns
@@ -188,6 +189,39 @@ pub ended-makes : (explains : Bool) (config : Config) (status number : ℕ) (tex
     → LineMakes explains config (Ended status) number text report (Ended status) report
 ended-makes explains config status number text report = λ lines comes is leads. λ texts. leads (text ∷ texts)
 
+-- where nothing runs, and no line may stand in front any more, the script has ended
+pub kept-makes : (explains : Bool) (config : Config) (stage : Stage) (number : ℕ) (text : List ℕ) (report : Report) → runs_at stage ≡ false
+    → (stage ≡ Untold → ⊥) → ((remarks : Bool) (front : Front) → stage ≡ InFront remarks front → ⊥)
+    → LineMakes explains config stage number text report stage report
+kept-makes explains config Untold number text report waits told none = absurd (told refl)
+kept-makes explains config (InFront remarks front) number text report waits told none = absurd (none remarks front refl)
+kept-makes explains config (Runs remarks run) number text report waits told none = absurd (false≢true (sym waits))
+kept-makes explains config (Ended status) number text report waits told none = ended-makes explains config status number text report
+
+-- a turn that was made in place
+stage-so : (end : Option ℕ) (remarks : Bool) (run : Phase) → stage_with end remarks run ≡ stage_by end (Runs remarks run)
+stage-so None remarks run = refl
+stage-so (Some status) remarks run = refl
+
+pub placed-makes : (explains : Bool) (config : Config) (turn : Turn) (old new next : Stage) (number : ℕ) (text : List ℕ) (before after : Report)
+    → TurnsInPlace old number text before turn new after → next ≡ stage_by (script_end turn) new
+    → LineMakes explains config old number text before next after
+placed-makes explains config turn old new next number text before after (remarks, run, later, is_old, is_new, steps) is =
+    let so : stage_behind turn remarks later ≡ next =
+    stage-so (script_end turn) remarks later ∙ sym (ap (stage_by (script_end turn)) is_new) ∙ sym is in
+    subst (λ stage. LineMakes explains config stage number text before next after) (sym is_old)
+    (running-makes explains config remarks run number text before after next
+    (subst (λ stage. RunMakes remarks run number text before stage after) so
+    (run-makes turn remarks run later number text before after steps)))
+
+pub placed-stands : (turn : Turn) (old new next : Stage) (number : ℕ) (text : List ℕ) (before after : Report) → StageStands old
+    → TurnsInPlace old number text before turn new after → next ≡ stage_by (script_end turn) new → StageStands next
+placed-stands turn old new next number text before after stands (remarks, run, later, is_old, is_new, steps) is =
+    let so : stage_behind turn remarks later ≡ next =
+    stage-so (script_end turn) remarks later ∙ sym (ap (stage_by (script_end turn)) is_new) ∙ sym is in
+    subst StageStands so
+    (run-stands turn remarks run later number text before after (subst StageStands is_old stands) steps)
+
 -- what comes may be told in other words
 leads-same : (explains : Bool) (config : Config) (lines : ℕ) (report : Report) (stage : Stage) (comes same : List (List ℕ) → RunOutcome)
     → ((texts : List (List ℕ)) → same texts ≡ comes texts)
@@ -215,31 +249,15 @@ CameSo old new config left lines = (came : List (List ℕ)) → LinesCame old co
 pub none-came : (run : SteppedRun) (config : Config) (lines : List (List ℕ)) → CameSo run run config lines lines
 none-came run config lines = λ came leads. (came, leads, refl)
 
-from-place : (lines : List (List ℕ)) (i : ℕ) (d : List ℕ) → i < length lines → drop i lines ≡ get_or lines i d ∷ drop (suc i) lines
-from-place [] i d within = absurd (omega (arith, within))
-from-place (line ∷ lines) zero d within = refl
-from-place (line ∷ lines) (suc i) d within = from-place lines i d (omega (arith, within))
-
-pub more-came : (old run new : SteppedRun) (config : Config) (lines whole : List (List ℕ)) (i next : ℕ) (text d : List ℕ)
-    → i < length lines → next ≡ i + 1 → text ≡ get_or lines i d
+pub next-came : (old run new : SteppedRun) (config : Config) (left rest whole : List (List ℕ)) (text : List ℕ) → left ≡ text ∷ rest
     → ((came : List (List ℕ)) → LinesCame run config came → LinesCame new config (came ++ text ∷ []))
-    → CameSo old run config (drop i lines) whole → CameSo old new config (drop next lines) whole
-more-came old run new config lines whole i next text d within is is_text makes kept = λ came leads.
-    let (now, comes, left) = kept came leads in
-    let suc_is : suc i ≡ next = omega (arith, is) in (
+    → CameSo old run config left whole → CameSo old new config rest whole
+next-came old run new config left rest whole text is makes kept = λ came leads.
+    let (now, comes, same) = kept came leads in (
       now ++ text ∷ [],
       makes now comes,
-      append_assoc now (text ∷ []) (drop next lines)
-          ∙ ap (λ n. now ++ text ∷ drop n lines) (sym suc_is)
-          ∙ ap (λ t. now ++ t ∷ drop (suc i) lines) is_text
-          ∙ ap (λ ls. now ++ ls) (sym (from-place lines i d within)) ∙ left,
+      append_assoc now (text ∷ []) rest ∙ ap (λ ls. now ++ ls) (sym is) ∙ same,
     )
-
-pub all-dropped : (lines : List (List ℕ)) (i : ℕ) → length lines ≤ i → drop i lines ≡ []
-all-dropped [] zero most = refl
-all-dropped [] (suc i) most = refl
-all-dropped (line ∷ lines) zero most = absurd (omega (arith, most))
-all-dropped (line ∷ lines) (suc i) most = all-dropped lines i (omega (arith, most))
 
 pub all-came : (old new : SteppedRun) (config : Config) (text : List ℕ) (left : List (List ℕ)) → WholeLines text → left ≡ []
     → new.explains ≡ old.explains → RunStands new → CameSo old new config left (script_lines text)

@@ -1,6 +1,6 @@
 //! Lines as a value.
 
-ghost use Rattle.std.specs.Prelude.{◌≡◌, ◌≤◌, ◌++◌, ◌∷◌, [], List, ℕ, length, IfOk, OnOk};
+ghost use Rattle.std.specs.Prelude.{◌≡◌, ◌==◌, ◌≤◌, ◌<◌, ◌++◌, ◌∷◌, [], false, List, ℕ, length, IfOk, OnOk};
 ghost use Rattle.std.specs.Io.BufRead.{take_through, drop_through};
 ghost use Rattle.std.specs.List.{list_any};
 ghost use Rattle.std.specs.Str.{bytes_eq};
@@ -39,6 +39,16 @@ fn line_size(text: &[u8]) -> usize
     text.len()
 }
 
+/// The first line of a text, without its end, and what stands behind it.
+pub fn first_line(text: &[u8]) -> (&[u8], &[u8])
+    requires { (length text.now == 0) ≡ false }
+    ensures lines { script_lines text.now ≡ result.0.now ∷ script_lines result.1.now }
+    ensures shorter { length result.1.now < length text.now }
+{
+    let (line, rest) = text.split_at(line_size(text));
+    (without_end(line), rest)
+}
+
 impl Lines {
     /// No line.
     pub fn new(alloc: Global) -> Lines
@@ -56,8 +66,8 @@ impl Lines {
         let mut lines = Lines::new(alloc);
         let mut rest = text;
         while !rest.is_empty() {
-            let (line, behind) = rest.split_at(line_size(rest));
-            lines.push(alloc, without_end(line))?;
+            let (line, behind) = first_line(rest);
+            lines.push(alloc, line)?;
             rest = behind;
         }
         Ok(lines)

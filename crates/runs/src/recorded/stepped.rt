@@ -1,12 +1,12 @@
 //! A run of a script whose lines come piece by piece: what was printed can be seen behind each.
 
-ghost use Rattle.std.specs.Prelude.{◌≡◌, ◌+◌, Bool, IfOk};
+ghost use Rattle.std.specs.Prelude.{◌≡◌, ◌+◌, Bool, false, None, IfOk, IfSome, OnOk};
 ghost use Rattle.sp_cells.specs.Config.{Config};
 ghost use Rattle.tool.specs.Courses.{PhaseStands};
-ghost use Rattle.runs.specs.Stepped.{stage_behind, FrontMakes, LineMakes, RunMakes, StageStands};
+ghost use Rattle.runs.specs.Stepped.{script_end, stage_by, stage_behind, runs_at, TurnsInPlace, FrontMakes, LineMakes, RunMakes, StageStands};
 ghost use Rattle.runs.specs.declared.recorded.stepped.Stage.TheVariants as stages;
 
-use crate::explored::Lines;
+use crate::explored::first_line;
 use crate::recorded::front::{Front, FrontTurn};
 use script_lines::Report;
 use std::alloc::Global;
@@ -48,7 +48,7 @@ fn stage_behind(turn: Turn, remarks: bool, run: Phase) -> Stage
     }
 }
 
-/// Does a line of this number on what runs.
+/// Does a line of this number on what begins to run.
 fn run_line(
     remarks: bool,
     mut run: Phase,
@@ -91,8 +91,50 @@ fn front_line(
     }
 }
 
-/// Does a line of this number, at any stage.
-fn stage_line(
+/// The status that a turn ends the script with, if it does.
+fn script_end(turn: Turn) -> Option<u8>
+    ensures { result ≡ script_end turn }
+{
+    match turn {
+        Turn::Goes { .. } => None,
+        Turn::ExpectationFailed => Some(1),
+        Turn::Bad(_) => Some(2),
+    }
+}
+
+/// Does a line of this number on what runs, which stays in its place, where something does.
+fn turn_in_place(
+    stage: &mut Stage,
+    number: u64,
+    text: &[u8],
+    report: &mut Report,
+) -> Result<Option<Turn>, RunError>
+    requires { StageStands stage.old }
+    ensures waits { IfOk result (λ turn. turn ≡ None → (runs_at stage.old ≡ false)
+        × (stage.new ≡ stage.old) × (report.new ≡ report.old)) }
+    ensures turns { IfOk result (λ turn. IfSome turn (λ made.
+        TurnsInPlace stage.old number text.now report.old made stage.new report.new)) }
+{
+    match stage {
+        Stage::Runs { remarks, run } => {
+            let turn = run.turn_or_skip(*remarks, number, text, report)?;
+            Ok(Some(turn))
+        }
+        _ => Ok(None),
+    }
+}
+
+/// Ends what runs, where a turn ends the script.
+fn end_by(turn: Turn, stage: &mut Stage)
+    ensures { stage.new ≡ stage_by (script_end turn) stage.old }
+{
+    if let Some(status) = script_end(turn) {
+        drop(mem::replace(stage, Stage::Ended { status }));
+    }
+}
+
+/// Does a line of this number where nothing runs.
+fn waiting_line(
     alloc: Global,
     options: &Options,
     explains: bool,
@@ -101,7 +143,7 @@ fn stage_line(
     text: &[u8],
     report: &mut Report,
 ) -> Result<Stage, RunError>
-    requires { StageStands stage }
+    requires { runs_at stage ≡ false }
     ensures stands { IfOk result StageStands }
     ensures makes { IfOk result (λ next.
         LineMakes explains options.now stage number text.now report.old next report.new) }
@@ -115,9 +157,33 @@ fn stage_line(
         Stage::InFront { remarks, front } => {
             front_line(alloc, explains, remarks, front, number, text, report)
         }
-        Stage::Runs { remarks, run } => run_line(remarks, run, number, text, report),
-        Stage::Ended { status } => Ok(Stage::Ended { status }),
+        _ => Ok(stage),
     }
+}
+
+/// Does a line of this number, at any stage.
+fn stage_line(
+    alloc: Global,
+    options: &Options,
+    explains: bool,
+    stage: &mut Stage,
+    number: u64,
+    text: &[u8],
+    report: &mut Report,
+) -> Result<(), RunError>
+    requires { StageStands stage.old }
+    ensures stands { OnOk result (StageStands stage.new) }
+    ensures makes { OnOk result (LineMakes explains options.now stage.old number text.now report.old
+        stage.new report.new) }
+{
+    if let Some(turn) = turn_in_place(stage, number, text, report)? {
+        end_by(turn, stage);
+        return Ok(());
+    }
+    let old = mem::replace(stage, Stage::Untold);
+    let next = waiting_line(alloc, options, explains, old, number, text, report)?;
+    drop(mem::replace(stage, next));
+    Ok(())
 }
 
 /// A run of a script whose lines come piece by piece.
@@ -163,12 +229,11 @@ impl SteppedRun {
         if self.lines >= LINE_LIMIT {
             return Err(RunError::ReadLimit);
         }
-        let stage = mem::replace(&mut self.stage, Stage::Untold);
         let number = self.lines + 1;
+        let stage = &mut self.stage;
         let report = &mut self.report;
         let explains = self.explains;
-        let next = stage_line(self.alloc, options, explains, stage, number, text, report)?;
-        drop(mem::replace(&mut self.stage, next));
+        stage_line(self.alloc, options, explains, stage, number, text, report)?;
         self.lines = number;
         Ok(())
     }
@@ -186,9 +251,11 @@ impl SteppedRun {
             → RanTo self.old explains options.now before
             → RanTo self.new explains options.now (before ++ text.now)) }
     {
-        let lines = Lines::of_script(self.alloc, text)?;
-        for line in lines.as_slice() {
-            self.add_line(options, line.as_slice())?;
+        let mut rest = text;
+        while !rest.is_empty() {
+            let (line, behind) = first_line(rest);
+            self.add_line(options, line)?;
+            rest = behind;
         }
         Ok(())
     }

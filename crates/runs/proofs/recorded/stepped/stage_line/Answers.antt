@@ -1,35 +1,23 @@
-use Rattle.std.proofs.Common.{sym, subst}
-use Rattle.std.proofs.lemmas.Result.{IfOk-weaker}
-use Rattle.runs.specs.Stepped.{LineMakes}
-use Rattle.runs.proofs.recorded.LineByLine.{untold-makes, front-makes, running-makes}
+use Rattle.std.proofs.Common.{subst}
+use Rattle.std.specs.Prelude.{IfSome}
+use Rattle.runs.specs.Stepped.{TurnsInPlace}
+use Rattle.runs.proofs.recorded.LineByLine.{placed-makes, placed-stands}
 use Rattle.runs.proofs.recorded.stepped.stage_line.Goals as goal
 
-pub returns-in-Untold-clause-makes : goal.returns-in-Untold-clause-makes
-returns-in-Untold-clause-makes c =
-    IfOk-weaker c.front_line.result _ _
-    (λ next makes.
-    subst (λ stage. LineMakes c.args.explains c.args.options.now stage c.args.number c.args.text.now c.args.report.now next c.front_line.new.report)
-    (sym c.in-Untold.is)
-    (untold-makes c.args.explains c.args.options.now c.may_hold_remarks-remarks.result c.new-front.result c.args.number c.args.text.now c.args.report.now
-    c.front_line.new.report next c.may_hold_remarks-remarks.ensures c.new-front.ensures (makes c.args.options.now)))
-    c.front_line.ensures.makes
+pub returns-in-Some-clause-stands : goal.returns-in-Some-clause-stands
+returns-in-Some-clause-stands c =
+    placed-stands c.in-Some.turn c.args.stage.now c.turn_in_place.new.stage c.end_by.new.stage c.args.number c.args.text.now
+    c.args.report.now c.turn_in_place.new.report c.requires
+    (subst
+    (λ turn. IfSome turn (λ made. TurnsInPlace c.args.stage.now c.args.number c.args.text.now c.args.report.now made c.turn_in_place.new.stage c.turn_in_place.new.report))
+    c.in-Some.is c.in_ok-turn.ensures.turns)
+    c.end_by.ensures
 
-pub returns-in-InFront-clause-makes : goal.returns-in-InFront-clause-makes
-returns-in-InFront-clause-makes c =
-    IfOk-weaker c.front_line-in-InFront.result _ _
-    (λ next makes.
-    subst (λ stage. LineMakes c.args.explains c.args.options.now stage c.args.number c.args.text.now c.args.report.now next c.front_line-in-InFront.new.report)
-    (sym c.in-InFront.is)
-    (front-makes c.args.explains c.args.options.now c.in-InFront.remarks c.in-InFront.front c.args.number c.args.text.now c.args.report.now
-    c.front_line-in-InFront.new.report next (makes c.args.options.now)))
-    c.front_line-in-InFront.ensures.makes
-
-pub returns-in-Runs-clause-makes : goal.returns-in-Runs-clause-makes
-returns-in-Runs-clause-makes c =
-    IfOk-weaker c.run_line.result _ _
-    (λ next makes.
-    subst (λ stage. LineMakes c.args.explains c.args.options.now stage c.args.number c.args.text.now c.args.report.now next c.run_line.new.report)
-    (sym c.in-Runs.is)
-    (running-makes c.args.explains c.args.options.now c.in-Runs.remarks c.in-Runs.run' c.args.number c.args.text.now c.args.report.now
-    c.run_line.new.report next makes))
-    c.run_line.ensures.makes
+pub returns-in-Some-clause-makes : goal.returns-in-Some-clause-makes
+returns-in-Some-clause-makes c =
+    placed-makes c.args.explains c.args.options.now c.in-Some.turn c.args.stage.now c.turn_in_place.new.stage c.end_by.new.stage c.args.number c.args.text.now
+    c.args.report.now c.turn_in_place.new.report
+    (subst
+    (λ turn. IfSome turn (λ made. TurnsInPlace c.args.stage.now c.args.number c.args.text.now c.args.report.now made c.turn_in_place.new.stage c.turn_in_place.new.report))
+    c.in-Some.is c.in_ok-turn.ensures.turns)
+    c.end_by.ensures
