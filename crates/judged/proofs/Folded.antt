@@ -1,21 +1,26 @@
 -- The runs of a transcript's script, line by line.
-use Rattle.std.proofs.Common.{◌≡◌, ◌∙◌, ℕ, zero, suc, ◌+◌, ◌<◌, ◌≤◌, ◌==◌, ◌||◌, Bool, true, false, cond, List, [], ◌∷◌, ◌++◌, length, drop, get_or, fold, refl, sym, ap, subst, append_assoc, append-nil, arith}
+use Rattle.std.proofs.Common.{◌≡◌, ◌∙◌, ℕ, zero, suc, ◌+◌, ◌<◌, ◌≤◌, ◌==◌, ◌||◌, Bool, true, false, cond, List, [], ◌∷◌, ◌++◌, length, drop, get_or, fold, refl, sym, ap, subst, arith, eqb-true, ◌⊎◌, inl, inr}
 use Rattle.std.proofs.lemmas.Bool.{false≢true}
 use Rattle.sp_cells.specs.Config.{Config}
 use Rattle.runs.specs.Stepped.{RanTo}
 use Rattle.runs.specs.declared.recorded.stepped.SteppedRun.{SteppedRun}
 use Rattle.tool.specs.Scripts.{script_lines}
-use Rattle.judged.specs.Answers.{text_behind, reasons_told, wanted_of}
+use Rattle.judged.specs.Answers.{text_behind, reasons_told}
 use Rattle.judged.specs.Benches.{ScriptsGoOn}
 use Rattle.judged.specs.Blanks.{other_text, first_answer}
-use Rattle.judged.specs.Judgements.{are_same, freedom_of, verdict_beside, through, printed_at, own_reasons, can_change, ruling_at, rulings_at, answers_agree, agreement_of, entry_added, with_entry, nothing_judged}
-use Rattle.judged.specs.Transcripts.{entry_text, script_of}
+use Rattle.judged.specs.Judgements.{are_same, freedom_of, verdict_beside, through, printed_at, own_reasons, can_change, said_at, wanted_at, freedom_at, ruling_at, rulings_at, answers_agree, agreement_of, pairs_behind, entry_added, with_models_entry, with_entry, nothing_judged, judging_of}
+use Rattle.judged.specs.SessionNumbers.{number_told}
+use Rattle.judged.specs.SessionPairs.{as_model}
+use Rattle.judged.specs.Transcripts.{entry_text}
 use Rattle.judged.specs.declared.bench.Printed.{Printed}
 use Rattle.judged.specs.declared.entry.Entry.{Entry}
 use Rattle.judged.specs.declared.freedom.Freedom.{Freedom}
 use Rattle.judged.specs.declared.judging.Judging.{Judging}
+use Rattle.judged.specs.declared.pairs.SessionPair.{SessionPair}
 use Rattle.judged.specs.declared.ruling.Ruling.{Ruling}
 use Rattle.judged.specs.declared.ruling.Verdict.TheVariants.{Agrees}
+use Rattle.judged.proofs.PlainPairs.{IsPlain, lines-plain, entry-plain, with-plain}
+use Rattle.judged.proofs.SameLines.{are_same-Decides}
 
 -- what the runs print is what the model prints
 abbrev pub three : List ℕ → List ℕ → List ℕ → Printed
@@ -31,33 +36,21 @@ printed-so config judging entry said explained other is_said is_explained is_oth
     ∙ ap (λ e. three (text_behind false config judging.script (through judging.script entry)) e other) is_explained
     ∙ ap (λ o. three (text_behind false config judging.script (through judging.script entry)) (text_behind true config judging.script (through judging.script entry)) o) is_other
 
--- the script of the transcript is that of its lines
-script_from : (config : Config) (freedoms : List Freedom) (judging : Judging) (entries : List Entry)
-    → (fold (with_entry config freedoms) judging entries).script ≡ judging.script ++ script_of entries
-script_from config freedoms judging [] = sym (append-nil judging.script)
-script_from config freedoms judging (entry ∷ entries) =
-    script_from config freedoms (with_entry config freedoms judging entry) entries
-    ∙ append_assoc judging.script (entry_text entry) (script_of entries)
-
-pub whole_script : (config : Config) (freedoms : List Freedom) (judging : Judging) (entries : List Entry)
-    → judging ≡ fold (with_entry config freedoms) nothing_judged entries → judging.script ≡ script_of entries
-whole_script config freedoms judging entries is =
-    ap (λ (j : Judging). j.script) is ∙ script_from config freedoms nothing_judged entries
-
 from-place : (entries : List Entry) (i : ℕ) (d : Entry) → i < length entries → drop i entries ≡ get_or entries i d ∷ drop (suc i) entries
 from-place [] i d within = absurd (omega (arith, within))
 from-place (entry ∷ entries) zero d within = refl
 from-place (entry ∷ entries) (suc i) d within = from-place entries i d (omega (arith, within))
 
 -- one line more is judged
-pub one_more : (config : Config) (freedoms : List Freedom) (judging later whole : Judging) (entries : List Entry) (i next : ℕ) (entry d : Entry)
-    (printed : Printed) → i < length entries → next ≡ i + 1 → entry ≡ get_or entries i d
-    → later ≡ entry_added freedoms judging entry printed → printed ≡ printed_at config judging entry
+pub one_more : (config : Config) (freedoms : List Freedom) (judging later whole : Judging) (entries : List Entry) (i next : ℕ) (entry d asked : Entry)
+    (printed : Printed) → i < length entries → next ≡ i + 1 → entry ≡ get_or entries i d → asked ≡ as_model judging.pairs entry
+    → later ≡ entry_added freedoms judging asked printed → printed ≡ printed_at config judging asked
     → fold (with_entry config freedoms) judging (drop i entries) ≡ whole
     → fold (with_entry config freedoms) later (drop next entries) ≡ whole
-one_more config freedoms judging later whole entries i next entry d printed within is is_entry adds prints kept =
+one_more config freedoms judging later whole entries i next entry d asked printed within is is_entry is_asked adds prints kept =
     let suc_is : next ≡ suc i = omega (arith, is) in
-    ap (λ j. fold (with_entry config freedoms) j (drop next entries)) (adds ∙ ap (entry_added freedoms judging entry) prints)
+    ap (λ j. fold (with_entry config freedoms) j (drop next entries))
+    (adds ∙ ap (entry_added freedoms judging asked) prints ∙ ap (with_models_entry config freedoms judging) is_asked)
     ∙ ap (λ n. fold (with_entry config freedoms) (with_entry config freedoms judging entry) (drop n entries)) suc_is
     ∙ ap (λ e. fold (with_entry config freedoms) (with_entry config freedoms judging e) (drop (suc i) entries)) is_entry
     ∙ sym (ap (fold (with_entry config freedoms) judging) (from-place entries i d within))
@@ -74,65 +67,97 @@ none_left (entry ∷ entries) zero most = absurd (omega (arith, most))
 none_left (entry ∷ entries) (suc i) most = none_left entries i (omega (arith, most))
 
 pub all_judged : (config : Config) (freedoms : List Freedom) (judging : Judging) (entries : List Entry) (i : ℕ) → length entries ≤ i
-    → fold (with_entry config freedoms) judging (drop i entries) ≡ fold (with_entry config freedoms) nothing_judged entries
-    → judging ≡ fold (with_entry config freedoms) nothing_judged entries
+    → fold (with_entry config freedoms) judging (drop i entries) ≡ judging_of config freedoms entries
+    → judging ≡ judging_of config freedoms entries
 all_judged config freedoms judging entries i most kept =
     sym (ap (fold (with_entry config freedoms) judging) (none_left entries i most)) ∙ kept
 
+-- no answers, or those that are wanted
+no-answers : (answers : List (List ℕ)) → (length answers == 0) ≡ true → answers ≡ []
+no-answers [] none = refl
+no-answers (answer ∷ answers) none = let no = eqb-true (length (answer ∷ answers)) 0 none in absurd (omega (arith, no))
+
+either : (t r : Bool) → (t || r) ≡ true → (t ≡ true) ⊎ (r ≡ true)
+either true r e = inl refl
+either false r e = inr e
+
+none-or-said : (entry : Entry) (printed : Printed) → answers_agree entry printed.said ≡ true
+    → (entry.answers ≡ []) ⊎ (entry.answers ≡ said_at entry printed)
+none-or-said entry printed agree =
+    at (either (length entry.answers == 0) (are_same entry.answers (said_at entry printed)) agree)
+  where
+    at : ((length entry.answers == 0) ≡ true) ⊎ (are_same entry.answers (said_at entry printed) ≡ true)
+        → (entry.answers ≡ []) ⊎ (entry.answers ≡ said_at entry printed)
+    at (inl none) = inl (no-answers entry.answers none)
+    at (inr same) = inr ((are_same-Decides entry.answers (said_at entry printed)).0 same)
+
+-- where the answers to a line agree, sessions keep the model's numbers
+pub still-plain : (freedoms : List Freedom) (pairs : List SessionPair) (entry : Entry) (printed : Printed) → IsPlain pairs
+    → (entry.answers ≡ []) ⊎ (entry.answers ≡ said_at entry printed) → IsPlain (pairs_behind freedoms pairs entry printed)
+still-plain freedoms pairs entry printed plain (inl none) =
+    with-plain pairs (freedom_at freedoms pairs entry printed) (number_told (first_answer entry.answers)) (number_told (first_answer (said_at entry printed))) plain
+    (inr (ap (λ answers. freedom_of freedoms entry.line answers (wanted_at pairs entry printed) (first_answer (script_lines printed.other))) none))
+still-plain freedoms pairs entry printed plain (inr said) =
+    with-plain pairs (freedom_at freedoms pairs entry printed) (number_told (first_answer entry.answers)) (number_told (first_answer (said_at entry printed))) plain
+    (inl (ap (λ (answers : List (List ℕ)). number_told (first_answer answers)) said))
+
 -- where the answers to a line agree, it is judged so
-pub agreed_at : (freedoms : List Freedom) (asked : List ℕ) (entry : Entry) (printed : Printed) → answers_agree entry printed.said ≡ true
-    → rulings_at freedoms asked entry printed ≡ agreement_of entry
-agreed_at freedoms asked entry printed agree = at (length entry.answers == 0) agree
+pub agreed_at : (freedoms : List Freedom) (pairs : List SessionPair) (asked : List ℕ) (entry : Entry) (printed : Printed) → IsPlain pairs
+    → answers_agree entry printed.said ≡ true → rulings_at freedoms pairs asked entry printed ≡ agreement_of entry
+agreed_at freedoms pairs asked entry printed plain agree = at (length entry.answers == 0) agree
   where
     same : (t : Bool) → t ≡ true
-        → cond t Agrees (verdict_beside (freedom_of freedoms entry.line entry.answers (wanted_of entry.answers (script_lines printed.said)) (first_answer (script_lines printed.other))) entry.answers (wanted_of entry.answers (script_lines printed.said)) (reasons_told entry.line (own_reasons printed) asked))
+        → cond t Agrees (verdict_beside (freedom_at freedoms pairs entry printed) entry.answers (wanted_at pairs entry printed) (reasons_told entry.line (own_reasons printed) asked))
         ≡ Agrees
     same true is = refl
     same false is = absurd (false≢true is)
 
-    at : (t : Bool) → (t || are_same entry.answers (wanted_of entry.answers (script_lines printed.said))) ≡ true
-        → cond t [] (ruling_at freedoms asked entry printed ∷ [])
+    at : (t : Bool) → (t || are_same entry.answers (said_at entry printed)) ≡ true
+        → cond t [] (ruling_at freedoms pairs asked entry printed ∷ [])
         ≡ cond t [] (record { number = entry.number; changes = can_change entry.line; verdict = Agrees } ∷ [])
     at true is = refl
     at false is =
         ap (λ v. record { number = entry.number; changes = can_change entry.line; verdict = v } ∷ [])
-        (same (are_same entry.answers (wanted_of entry.answers (script_lines printed.said))) is)
+        (same (are_same entry.answers (wanted_at pairs entry printed))
+        (ap (are_same entry.answers) (lines-plain pairs (said_at entry printed) plain) ∙ is))
 
 -- all answers so far agree
 abbrev pub AgreeSo : SteppedRun → Config → List Ruling → List Entry → List Entry → Type 0
 AgreeSo run config rulings left entries = (freedoms : List Freedom) → (judging : Judging)
-    × (fold (with_entry config freedoms) judging left ≡ fold (with_entry config freedoms) nothing_judged entries)
-    × (judging.rulings ≡ rulings) × RanTo run false config judging.script
+    × (fold (with_entry config freedoms) judging left ≡ judging_of config freedoms entries)
+    × (judging.rulings ≡ rulings) × RanTo run false config judging.script × IsPlain judging.pairs
 
 pub none_agree : (run : SteppedRun) (config : Config) (rulings : List Ruling) (entries : List Entry) → rulings ≡ [] → RanTo run false config []
     → AgreeSo run config rulings entries entries
-none_agree run config rulings entries none ran = λ freedoms. (nothing_judged, refl, sym none, ran)
+none_agree run config rulings entries none ran = λ freedoms. (nothing_judged, refl, sym none, ran, tt)
 
-pub more_agree : (run new : SteppedRun) (config : Config) (rulings more : List Ruling) (entries : List Entry) (i next : ℕ) (entry d : Entry) (said : List ℕ)
+pub more_agree : (run new : SteppedRun) (config : Config) (rulings more : List Ruling) (entries : List Entry) (i next : ℕ) (entry d : Entry)
     → i < length entries → next ≡ i + 1 → entry ≡ get_or entries i d
     → ((explains : Bool) (before : List ℕ) → RanTo run explains config before → RanTo new explains config (before ++ entry_text entry))
-    → ((explains : Bool) (before : List ℕ) → RanTo run explains config before → said ≡ text_behind explains config before (through before entry))
-    → answers_agree entry said ≡ true → more ≡ rulings ++ agreement_of entry
+    → ((explains : Bool) (before : List ℕ) → RanTo run explains config before
+    → answers_agree entry (text_behind explains config before (through before entry)) ≡ true)
+    → more ≡ rulings ++ agreement_of entry
     → AgreeSo run config rulings (drop i entries) entries → AgreeSo new config more (drop next entries) entries
-more_agree run new config rulings more entries i next entry d said within is is_entry goes prints agree adds kept = λ freedoms.
-    let (judging, folds, same, ran) = kept freedoms in
-    let later = with_entry config freedoms judging entry in
+more_agree run new config rulings more entries i next entry d within is is_entry goes agree adds kept = λ freedoms.
+    let (judging, folds, same, ran, plain) = kept freedoms in
+    let later = with_models_entry config freedoms judging entry in
     let printed = printed_at config judging entry in
-    let agrees : answers_agree entry printed.said ≡ true = sym (ap (answers_agree entry) (prints false judging.script ran)) ∙ agree in (
+    let agrees : answers_agree entry printed.said ≡ true = agree false judging.script ran in (
       later,
-      one_more config freedoms judging later _ entries i next entry d printed within is is_entry refl refl folds,
-      ap (λ r. judging.rulings ++ r) (agreed_at freedoms judging.asked entry printed agrees)
+      one_more config freedoms judging later _ entries i next entry d entry printed within is is_entry (sym (entry-plain judging.pairs entry plain)) refl refl folds,
+      ap (λ r. judging.rulings ++ r) (agreed_at freedoms judging.pairs judging.asked entry printed plain agrees)
           ∙ ap (λ r. r ++ agreement_of entry) same ∙ sym adds,
       goes false judging.script ran,
+      still-plain freedoms judging.pairs entry printed plain (none-or-said entry printed agrees),
     )
 
 pub all_agree : (run : SteppedRun) (config : Config) (rulings : List Ruling) (entries : List Entry) (i : ℕ) → length entries ≤ i
     → AgreeSo run config rulings (drop i entries) entries → (freedoms : List Freedom)
-    → (rulings ≡ (fold (with_entry config freedoms) nothing_judged entries).rulings)
-    × RanTo run false config (script_of entries)
+    → (rulings ≡ (judging_of config freedoms entries).rulings)
+    × RanTo run false config (judging_of config freedoms entries).script
 all_agree run config rulings entries i most kept freedoms =
-    let (judging, folds, same, ran) = kept freedoms in
+    let (judging, folds, same, ran, plain) = kept freedoms in
     let whole = all_judged config freedoms judging entries i most folds in (
       sym same ∙ ap (λ (j : Judging). j.rulings) whole,
-      subst (RanTo run false config) (whole_script config freedoms judging entries whole) ran,
+      subst (λ (j : Judging). RanTo run false config j.script) whole ran,
     )

@@ -2,6 +2,8 @@ mod BehindWords
 mod SameLines
 mod NamedFreedoms
 mod Numbered
+mod PlainPairs
+mod KeptLines
 mod Verdicts
 mod WholeScripts
 mod Folded

@@ -5,7 +5,7 @@ use Rattle.judged.specs.Freedoms.{is_by, freedom_between}
 use Rattle.judged.specs.Judgements.{are_same, freedom_of, verdict_beside, is_agreement, is_allowance, is_wrong}
 use Rattle.judged.specs.Laws.{AgreesLaw, AllowsLaw, WrongLaw, NamesLaw, DiffersBy}
 use Rattle.judged.specs.declared.freedom.Freedom.{Freedom}
-use Rattle.judged.specs.declared.freedom.Freedom.TheVariants.{ErrorBits, BlankSectors, VendorBytes, Identity}
+use Rattle.judged.specs.declared.freedom.Freedom.TheVariants.{ErrorBits, BlankSectors, VendorBytes, Identity, SessionNumbers}
 use Rattle.judged.specs.declared.ruling.Verdict.{Verdict}
 use Rattle.judged.specs.declared.ruling.Verdict.TheVariants.{Agrees, Allowed, Wrong}
 use Rattle.judged.proofs.SameLines.{are_same-Decides}
@@ -125,3 +125,4 @@ named ErrorBits = refl
 named BlankSectors = refl
 named VendorBytes = refl
 named Identity = refl
+named SessionNumbers = refl

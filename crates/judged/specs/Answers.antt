@@ -30,7 +30,11 @@ reasons_told line own asked =
 abbrev pub is_audit : List ℕ → Bool
 is_audit line = bytes_eq (nth_word 0 line) (codes "audit")
 
+-- lines, all or those alone that are not of the audit
+abbrev pub lines_kept : Bool → List (List ℕ) → List (List ℕ)
+lines_kept whole lines = filter (λ line. whole || not (is_audit line)) lines
+
 -- What a drive must say. The audit is the model's own, and no drive has it: where the answers leave it
 -- out, so does what is wanted.
 abbrev pub wanted_of : List (List ℕ) → List (List ℕ) → List (List ℕ)
-wanted_of answers said = filter (λ line. list_any is_audit answers || not (is_audit line)) said
+wanted_of answers said = lines_kept (list_any is_audit answers) said

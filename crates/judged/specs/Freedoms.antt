@@ -7,9 +7,10 @@ use Rattle.hex.specs.Hex.{decode_sized}
 use Rattle.hex.specs.declared.error.FromHexError.{FromHexError}
 use Rattle.script_lines.specs.Words.{nth_word}
 use Rattle.judged.specs.Blanks.{is_digit, differs_by_blanks}
+use Rattle.judged.specs.SessionNumbers.{data_place, differs_by_number}
 use Rattle.judged.specs.declared.freedom.Freedom.{Freedom}
 use Rattle.judged.specs.declared.freedom.Span.{Span}
-use Rattle.judged.specs.declared.freedom.Freedom.TheVariants.{ErrorBits, BlankSectors, VendorBytes, Identity}
+use Rattle.judged.specs.declared.freedom.Freedom.TheVariants.{ErrorBits, BlankSectors, VendorBytes, Identity, SessionNumbers}
 
 -- The bits of the Error field to which ACS-3 (section 6.3) gives a meaning for a drive: the CRC of the
 -- interface (7), an uncorrectable error (6), ID not found (4) and abort (2). The others are obsolete, or
@@ -46,10 +47,6 @@ abbrev pub differs_by_error_bits : List ℕ → List ℕ → Bool
 differs_by_error_bits heard wanted = bytes_eq (take 5 wanted) (codes "fail ")
     && bytes_eq (take error_place heard) (take error_place wanted)
     && are_open_errors (error_in heard) (error_in wanted)
-
--- how many bytes stand in front of the digits in `data HEX`
-abbrev pub data_place : ℕ
-data_place = 5
 
 -- a place of a line `data HEX` has a digit of these bytes
 abbrev pub has_digit : ℕ → Span → Bool
@@ -118,6 +115,7 @@ is_by asked heard wanted other VendorBytes =
     asks_level0 asked && differs_within vendor_spans 0 heard wanted
 is_by asked heard wanted other Identity =
     asks_identity asked && differs_within identity_spans 0 heard wanted && line_adds_up heard
+is_by asked heard wanted other SessionNumbers = differs_by_number heard wanted
 
 -- the first of the freedoms that are given by which it does
 abbrev pub freedom_between : List Freedom → List ℕ → List ℕ → List ℕ → List ℕ → Option Freedom
@@ -129,9 +127,10 @@ freedom_name ErrorBits = codes "error-bits"
 freedom_name BlankSectors = codes "blank-sectors"
 freedom_name VendorBytes = codes "vendor-bytes"
 freedom_name Identity = codes "identity"
+freedom_name SessionNumbers = codes "session-numbers"
 
 abbrev pub all_freedoms : List Freedom
-all_freedoms = ErrorBits ∷ BlankSectors ∷ VendorBytes ∷ Identity ∷ []
+all_freedoms = ErrorBits ∷ BlankSectors ∷ VendorBytes ∷ Identity ∷ SessionNumbers ∷ []
 
 abbrev pub freedom_named : List ℕ → Option Freedom
 freedom_named name =
@@ -139,6 +138,7 @@ freedom_named name =
     else if bytes_eq name (codes "blank-sectors") then Some BlankSectors
     else if bytes_eq name (codes "vendor-bytes") then Some VendorBytes
     else if bytes_eq name (codes "identity") then Some Identity
+    else if bytes_eq name (codes "session-numbers") then Some SessionNumbers
     else None
 
 -- the freedoms of these names, where each is one

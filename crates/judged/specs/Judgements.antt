@@ -6,13 +6,16 @@ use Rattle.sp_cells.specs.Config.{Config}
 use Rattle.tool.specs.Outcomes.{RunOutcome, Yields, ends, run_outcome_of}
 use Rattle.tool.specs.Scripts.{script_lines}
 use Rattle.script_lines.specs.Words.{nth_word}
-use Rattle.judged.specs.Transcripts.{own_line_text, entry_text, entries_of, script_of}
+use Rattle.judged.specs.Transcripts.{own_line_text, entry_text, entries_of}
 use Rattle.judged.specs.Answers.{text_behind, is_receiving, reasons_told, wanted_of}
 use Rattle.judged.specs.Blanks.{other_text, first_answer}
 use Rattle.judged.specs.Freedoms.{asks_level0, freedom_between, freedom_name}
+use Rattle.judged.specs.SessionNumbers.{number_told}
+use Rattle.judged.specs.SessionPairs.{drives_lines, as_model, pairs_with}
 use Rattle.judged.specs.declared.bench.Printed.{Printed}
 use Rattle.judged.specs.declared.entry.Entry.{Entry}
 use Rattle.judged.specs.declared.freedom.Freedom.{Freedom}
+use Rattle.judged.specs.declared.pairs.SessionPair.{SessionPair}
 use Rattle.judged.specs.declared.ruling.Ruling.{Ruling}
 use Rattle.judged.specs.declared.ruling.Verdict.{Verdict}
 use Rattle.judged.specs.declared.ruling.Verdict.TheVariants.{Agrees, Allowed, Wrong}
@@ -82,13 +85,30 @@ printed_at config judging entry = record {
 abbrev pub own_reasons : Printed → List ℕ
 own_reasons printed = drop (length printed.said) printed.explained
 
--- how answers stand to what the model prints
-abbrev pub entry_verdict : List Freedom → List ℕ → Entry → Printed → Verdict
-entry_verdict freedoms asked entry printed =
+-- what the model says that a drive must say, too, and the same with the drive's number of the session
+abbrev pub said_at : Entry → Printed → List (List ℕ)
+said_at entry printed = wanted_of entry.answers (script_lines printed.said)
+
+abbrev pub wanted_at : List SessionPair → Entry → Printed → List (List ℕ)
+wanted_at pairs entry printed = drives_lines pairs (said_at entry printed)
+
+-- how answers stand to what must be said
+abbrev pub entry_verdict : List Freedom → List SessionPair → List ℕ → Entry → Printed → Verdict
+entry_verdict freedoms pairs asked entry printed =
     answers_verdict freedoms entry.line entry.answers
-    (wanted_of entry.answers (script_lines printed.said))
-    (first_answer (script_lines printed.other))
+    (wanted_at pairs entry printed) (first_answer (script_lines printed.other))
     (reasons_told entry.line (own_reasons printed) asked)
+
+-- the freedom by which they differ
+abbrev pub freedom_at : List Freedom → List SessionPair → Entry → Printed → Option Freedom
+freedom_at freedoms pairs entry printed =
+    freedom_of freedoms entry.line entry.answers (wanted_at pairs entry printed)
+    (first_answer (script_lines printed.other))
+
+abbrev pub pairs_behind : List Freedom → List SessionPair → Entry → Printed → List SessionPair
+pairs_behind freedoms pairs entry printed =
+    pairs_with pairs (freedom_at freedoms pairs entry printed)
+    (number_told (first_answer entry.answers)) (number_told (first_answer (said_at entry printed)))
 
 -- A line whose answer tells what the drive did: behind a wrong one it may be in another state than the model. A
 -- read, also of Level 0, leaves all as it was, and so does a line that prints nothing. What a client of a port
@@ -99,17 +119,17 @@ can_change line = not (bytes_eq (nth_word 0 line) (codes "dread")
     || bytes_eq (nth_word 0 line) (codes "range") || bytes_eq (nth_word 0 line) (codes "port")
     || bytes_eq (nth_word 0 line) (codes "expect")) && not (asks_level0 line)
 
-abbrev pub ruling_at : List Freedom → List ℕ → Entry → Printed → Ruling
-ruling_at freedoms asked entry printed = record {
+abbrev pub ruling_at : List Freedom → List SessionPair → List ℕ → Entry → Printed → Ruling
+ruling_at freedoms pairs asked entry printed = record {
   number = entry.number;
   changes = can_change entry.line;
-  verdict = entry_verdict freedoms asked entry printed;
+  verdict = entry_verdict freedoms pairs asked entry printed;
 }
 
 -- a line without answers is not judged: what the drive said was not seen, and is taken for the model's
-abbrev pub rulings_at : List Freedom → List ℕ → Entry → Printed → List Ruling
-rulings_at freedoms asked entry printed =
-    if length entry.answers == 0 then [] else ruling_at freedoms asked entry printed ∷ []
+abbrev pub rulings_at : List Freedom → List SessionPair → List ℕ → Entry → Printed → List Ruling
+rulings_at freedoms pairs asked entry printed =
+    if length entry.answers == 0 then [] else ruling_at freedoms pairs asked entry printed ∷ []
 
 -- whether the answers to a line, if there are some, are what the model prints
 abbrev pub answers_agree : Entry → List ℕ → Bool
@@ -130,20 +150,33 @@ entry_added freedoms judging entry printed = record {
   script = judging.script ++ entry_text entry;
   other = judging.other ++ other_text entry;
   asked = asked_behind judging.asked entry printed;
-  rulings = judging.rulings ++ rulings_at freedoms judging.asked entry printed;
+  pairs = pairs_behind freedoms judging.pairs entry printed;
+  rulings = judging.rulings ++ rulings_at freedoms judging.pairs judging.asked entry printed;
 }
 
 -- behind each line the model goes on by its own answer
-abbrev pub with_entry : Config → List Freedom → Judging → Entry → Judging
-with_entry config freedoms judging entry =
+abbrev pub with_models_entry : Config → List Freedom → Judging → Entry → Judging
+with_models_entry config freedoms judging entry =
     entry_added freedoms judging entry (printed_at config judging entry)
 
+-- a line is the model's where it names a session by the model's number
+abbrev pub with_entry : Config → List Freedom → Judging → Entry → Judging
+with_entry config freedoms judging entry =
+    with_models_entry config freedoms judging (as_model judging.pairs entry)
+
 abbrev pub nothing_judged : Judging
-nothing_judged = record { script = []; other = []; asked = []; rulings = [] }
+nothing_judged = record { script = []; other = []; asked = []; pairs = []; rulings = [] }
+
+abbrev pub judging_of : Config → List Freedom → List Entry → Judging
+judging_of config freedoms entries = fold (with_entry config freedoms) nothing_judged entries
 
 abbrev pub rulings_of : Config → List Freedom → List Entry → List Ruling
-rulings_of config freedoms entries =
-    (fold (with_entry config freedoms) nothing_judged entries).rulings
+rulings_of config freedoms entries = (judging_of config freedoms entries).rulings
+
+-- the status of the script, as the model runs it
+abbrev pub script_status : Config → List Freedom → List Entry → ℕ
+script_status config freedoms entries =
+    (run_outcome_of config (judging_of config freedoms entries).script).status
 
 abbrev pub is_agreement : Verdict → Bool
 is_agreement Agrees = true
@@ -228,7 +261,7 @@ judged_behind config terms entries status =
 -- what a transcript comes to
 abbrev pub judgement_of_entries : Config → Terms → List Entry → RunOutcome
 judgement_of_entries config terms entries =
-    judged_behind config terms entries (run_outcome_of config (script_of entries)).status
+    judged_behind config terms entries (script_status config terms.freedoms entries)
 
 abbrev pub judgement_of : Config → Terms → List ℕ → RunOutcome
 judgement_of config terms text =

@@ -1,6 +1,8 @@
 pub mod Transcripts
 pub mod Answers
 pub mod Blanks
+pub mod SessionNumbers
+pub mod SessionPairs
 pub mod Freedoms
 pub mod Judgements
 pub mod Laws

@@ -1,13 +1,15 @@
 //! What the model answers to a line, and what of it another drive must say.
 
-ghost use Rattle.std.specs.Prelude.{◌≡◌, ◌++◌, ℕ, Bool, List, drop, length, not, ◌||◌, IfOk, OnOk};
-ghost use Rattle.std.specs.List.{list_any, filter};
+ghost use Rattle.std.specs.Prelude.{◌≡◌, ◌++◌, ℕ, Bool, List, drop, length, IfOk, OnOk};
+ghost use Rattle.std.specs.List.{list_any};
+ghost use Rattle.tool.specs.Scripts.{script_lines};
+ghost use Rattle.judged.specs.Judgements.{are_same};
 ghost use Rattle.runs.specs.Stepped.{RanTo, RunStands, WholeLines};
-ghost use Rattle.judged.specs.Answers.{text_behind, is_receiving, reasons_told, is_audit, wanted_of};
+ghost use Rattle.judged.specs.Answers.{text_behind, is_receiving, reasons_told, is_audit, lines_kept, wanted_of};
 
 use crate::text::Text;
 use basics::Bytes;
-use runs::explored::Lines;
+use runs::explored::{Lines, first_line};
 use runs::recorded::SteppedRun;
 use script_lines::Words;
 use std::alloc::{AllocError, Global};
@@ -81,10 +83,39 @@ fn have_audit(lines: &[Bytes]) -> bool
     false
 }
 
+/// Whether answers are what a drive must say, where the model says the lines of this text, all of which count, or those alone
+/// that are not of the audit.
+fn are_said(answers: &[Bytes], whole: bool, said: &[u8]) -> bool
+    ensures { result ≡ are_same answers.now (lines_kept whole (script_lines said.now)) }
+{
+    let mut left = answers;
+    let mut rest = said;
+    while !rest.is_empty() {
+        let (line, behind) = first_line(rest);
+        rest = behind;
+        if whole || !is_audit(line) {
+            let [answer, more @ ..] = left else {
+                return false;
+            };
+            if answer.as_slice() != line {
+                return false;
+            }
+            left = more;
+        }
+    }
+    left.is_empty()
+}
+
+/// Whether answers are what a drive must say, where the model says the lines of this text.
+pub(crate) fn agree_with(answers: &[Bytes], said: &[u8]) -> bool
+    ensures { result ≡ are_same answers.now (wanted_of answers.now (script_lines said.now)) }
+{
+    are_said(answers, have_audit(answers), said)
+}
+
 /// The lines, without those of the audit where they are to be left out.
 fn lines_said(alloc: Global, whole: bool, said: &[Bytes]) -> Result<Lines, AllocError>
-    ensures { IfOk result (λ lines. lines
-        ≡ filter (λ line. whole || not (is_audit line)) said.now) }
+    ensures { IfOk result (λ lines. lines ≡ lines_kept whole said.now) }
 {
     let mut lines = Lines::new(alloc);
     for line in said {

@@ -36,7 +36,7 @@ pub struct Bench {
 }
 
 /// Does a line and the remarks behind it, and gives what the line prints.
-pub(crate) fn print_entry(
+fn print_entry(
     alloc: Global,
     options: &Options,
     run: &mut SteppedRun,

@@ -51,7 +51,7 @@ fn byte_place(line: &[u8]) -> Option<usize>
 
 /// What stands behind so many words.
 #[tactic(auto, using(crate::proofs::BehindWords::one_more))]
-fn behind_words(line: &[u8], count: usize) -> &[u8]
+pub(crate) fn behind_words(line: &[u8], count: usize) -> &[u8]
     ensures { result.now ≡ after_words count line.now }
 {
     let mut words = Words::new(line);

@@ -4,6 +4,7 @@ ghost use Rattle.std.specs.Prelude.{◌≡◌};
 ghost use Rattle.judged.specs.Freedoms.{error_in, are_open_bits, are_open_errors, differs_by_error_bits, has_digit, has_some_digit, may_stand, differs_within, asks_level0, asks_identity, line_adds_up};
 
 use crate::blanks::{differs_by_blanks, front, is_digit};
+use crate::received::{DATA_PLACE, differs_by_number};
 use basics::byte_sum;
 use script_lines::Words;
 use std::alloc::{AllocError, Global};
@@ -23,6 +24,9 @@ pub enum Freedom {
     /// The serial number, the firmware's version, the model number and the World Wide Name, and the checksum, which a drive
     /// need not have, but which has to add up (ACS-3, IDENTIFY DEVICE).
     Identity,
+    /// The number that the TPer gives a session (TCG Core 2.01, sections 3.3.7.1.3 and 5.2.3): an answer that hands out another
+    /// one differs by it. The answers behind it have that number.
+    SessionNumbers,
 }
 
 /// The bits of the Error field that have a meaning.
@@ -35,11 +39,12 @@ const ABORT_BIT: u8 = 4;
 const ERROR_PLACE: usize = 8;
 
 /// All that the model knows.
-const ALL_FREEDOMS: [Freedom; 4] = [
+const ALL_FREEDOMS: [Freedom; 5] = [
     Freedom::ErrorBits,
     Freedom::BlankSectors,
     Freedom::VendorBytes,
     Freedom::Identity,
+    Freedom::SessionNumbers,
 ];
 
 /// The error in a line `fail 51 04`.
@@ -92,9 +97,6 @@ const VENDOR_SPANS: [Span; 1] = [Span {
     first: 16,
     limit: 48,
 }];
-
-/// How many bytes stand in front of the digits in a line `data HEX`.
-const DATA_PLACE: usize = 5;
 
 /// How many bytes IDENTIFY DEVICE data have.
 const IDENTITY_SIZE: usize = 512;
@@ -197,24 +199,33 @@ fn line_adds_up(line: &[u8]) -> bool
 }
 
 impl Freedom {
-    ghost use Rattle.std.specs.Prelude.{◌≡◌, option_map};
+    ghost use Rattle.std.specs.Prelude.{◌≡◌, IfOk};
     ghost use Rattle.judged.specs.Freedoms.{is_by, freedom_name, freedom_named};
 
     /// Whether the answer of a drive to a line differs from the model's by this freedom alone.
-    fn is_by(self, asked: &[u8], heard: &[u8], wanted: &[u8], other: &[u8]) -> bool
-        ensures { result ≡ is_by asked.now heard.now wanted.now other.now self }
+    fn is_by(
+        self,
+        alloc: Global,
+        asked: &[u8],
+        heard: &[u8],
+        wanted: &[u8],
+        other: &[u8],
+    ) -> Result<bool, AllocError>
+        ensures { IfOk result (λ differs. differs
+            ≡ is_by asked.now heard.now wanted.now other.now self) }
     {
         match self {
-            Freedom::ErrorBits => differs_by_error_bits(heard, wanted),
-            Freedom::BlankSectors => differs_by_blanks(heard, wanted, other),
+            Freedom::ErrorBits => Ok(differs_by_error_bits(heard, wanted)),
+            Freedom::BlankSectors => Ok(differs_by_blanks(heard, wanted, other)),
             Freedom::VendorBytes => {
-                asks_level0(asked) && differs_within(&VENDOR_SPANS, heard, wanted)
+                Ok(asks_level0(asked) && differs_within(&VENDOR_SPANS, heard, wanted))
             }
-            Freedom::Identity => {
+            Freedom::Identity => Ok(
                 asks_identity(asked)
                     && differs_within(&IDENTITY_SPANS, heard, wanted)
-                    && line_adds_up(heard)
-            }
+                    && line_adds_up(heard),
+            ),
+            Freedom::SessionNumbers => differs_by_number(alloc, heard, wanted),
         }
     }
 
@@ -227,6 +238,7 @@ impl Freedom {
             Freedom::BlankSectors => b"blank-sectors",
             Freedom::VendorBytes => b"vendor-bytes",
             Freedom::Identity => b"identity",
+            Freedom::SessionNumbers => b"session-numbers",
         }
     }
 
@@ -242,6 +254,8 @@ impl Freedom {
             Some(Freedom::VendorBytes)
         } else if name == b"identity".as_slice() {
             Some(Freedom::Identity)
+        } else if name == b"session-numbers".as_slice() {
+            Some(Freedom::SessionNumbers)
         } else {
             None
         }
@@ -268,7 +282,7 @@ impl Model for Freedoms {
 pub enum FreedomFault {
     #[error("out of memory")]
     OutOfMemory,
-    #[error("--freedom is none of error-bits, blank-sectors, vendor-bytes and identity")]
+    #[error("--freedom is none of error-bits, blank-sectors, vendor-bytes, identity and session-numbers")]
     Unknown,
 }
 
@@ -349,18 +363,20 @@ impl Freedoms {
     /// before writes another byte.
     pub fn between(
         &self,
+        alloc: Global,
         asked: &[u8],
         heard: &[u8],
         wanted: &[u8],
         other: &[u8],
-    ) -> Option<Freedom>
-        ensures { result ≡ freedom_between self.now asked.now heard.now wanted.now other.now }
+    ) -> Result<Option<Freedom>, AllocError>
+        ensures { IfOk result (λ freedom. freedom
+            ≡ freedom_between self.now asked.now heard.now wanted.now other.now) }
     {
         for freedom in &self.items {
-            if freedom.is_by(asked, heard, wanted, other) {
-                return Some(*freedom);
+            if freedom.is_by(alloc, asked, heard, wanted, other)? {
+                return Ok(Some(*freedom));
             }
         }
-        None
+        Ok(None)
     }
 }

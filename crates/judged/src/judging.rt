@@ -1,18 +1,20 @@
 //! The answers of a transcript, judged one after the other.
 
-ghost use Rattle.std.specs.Prelude.{◌≡◌, ◌++◌, ◌∷◌, [], false, List, IfOk, IfSome, OnOk};
+ghost use Rattle.std.specs.Prelude.{◌≡◌, ◌++◌, ◌∷◌, [], false, ℕ, Bool, List, IfOk, IfSome, OnOk};
 ghost use Rattle.runs.specs.Stepped.{RanTo, RunStands};
 ghost use Rattle.judged.specs.declared.freedom.Freedom.{Freedom};
-ghost use Rattle.tool.specs.Outcomes.{run_outcome_of};
+ghost use Rattle.judged.specs.Answers.{text_behind};
 ghost use Rattle.judged.specs.Benches.{BenchFits, BenchStands};
-ghost use Rattle.judged.specs.Judgements.{are_same, freedom_of, behind_commas, joined_answer, answer_behind_words, wrong_text, verdict_beside, answers_verdict, can_change, answers_agree, agreement_of, own_reasons, entry_verdict, nothing_judged, rulings_of};
-ghost use Rattle.judged.specs.Transcripts.{script_of};
+ghost use Rattle.judged.specs.Transcripts.{entry_text};
+ghost use Rattle.judged.specs.Judgements.{through, are_same, freedom_of, behind_commas, joined_answer, answer_behind_words, wrong_text, verdict_beside, answers_verdict, can_change, answers_agree, agreement_of, own_reasons, said_at, wanted_at, entry_verdict, freedom_at, nothing_judged, judging_of, rulings_of, script_status};
 
-use crate::answers::{behind, is_receiving, reasons_told, wanted_of};
-use crate::bench::{Bench, Printed, print_entry};
+use crate::answers::{agree_with, behind, is_receiving, reasons_told, wanted_of};
+use crate::bench::{Bench, Printed};
 use crate::blanks::{append_other_text, first_answer};
 use crate::entry::Entry;
 use crate::freedom::{Freedom, Freedoms, asks_level0};
+use crate::pairs::{SessionPairs, number_given};
+use crate::received::number_told;
 use crate::ruling::{Ruling, Rulings, Verdict};
 use crate::text::Text;
 use basics::Bytes;
@@ -39,22 +41,24 @@ fn are_same(heard: &[Bytes], wanted: &[Bytes]) -> bool
 
 /// The freedom by which answers differ from the model's, where they do by one.
 fn freedom_of(
+    alloc: Global,
     freedoms: &Freedoms,
     asked: &[u8],
     heard: &[Bytes],
     wanted: &[Bytes],
     other: &[u8],
-) -> Option<Freedom>
-    ensures { result ≡ freedom_of freedoms.now asked.now heard.now wanted.now other.now }
+) -> Result<Option<Freedom>, AllocError>
+    ensures { IfOk result (λ freedom. freedom
+        ≡ freedom_of freedoms.now asked.now heard.now wanted.now other.now) }
 {
     match (heard, wanted) {
         ([x, xs @ ..], [y, ys @ ..]) => {
             if !are_same(xs, ys) {
-                return None;
+                return Ok(None);
             }
-            freedoms.between(asked, x.as_slice(), y.as_slice(), other)
+            freedoms.between(alloc, asked, x.as_slice(), y.as_slice(), other)
         }
-        _ => None,
+        _ => Ok(None),
     }
 }
 
@@ -150,7 +154,7 @@ fn answers_verdict(
     if are_same(heard, wanted) {
         return Ok(Verdict::Agrees);
     }
-    let freedom = freedom_of(freedoms, asked, heard, wanted, other);
+    let freedom = freedom_of(alloc, freedoms, asked, heard, wanted, other)?;
     verdict_beside(alloc, freedom, heard, wanted, reasons)
 }
 
@@ -168,21 +172,42 @@ fn can_change(line: &[u8]) -> bool
         && !asks_level0(line)
 }
 
-/// How the answers to a line stand to what the model prints.
+/// What the model says to a line that a drive must say, too.
+fn said_at(alloc: Global, entry: &Entry, printed: &Printed) -> Result<Lines, AllocError>
+    ensures { IfOk result (λ said. said ≡ said_at entry.now printed.now) }
+{
+    let said = Lines::of_script(alloc, printed.said.as_slice())?;
+    wanted_of(alloc, entry.answers.as_slice(), said.as_slice())
+}
+
+/// The same, with the drive's number of the session.
+fn wanted_at(
+    alloc: Global,
+    pairs: &SessionPairs,
+    entry: &Entry,
+    printed: &Printed,
+) -> Result<Lines, AllocError>
+    ensures { IfOk result (λ wanted. wanted ≡ wanted_at pairs.now entry.now printed.now) }
+{
+    let said = said_at(alloc, entry, printed)?;
+    pairs.drives_lines(alloc, said.as_slice())
+}
+
+/// How the answers to a line stand to what must be said.
 fn entry_verdict(
     alloc: Global,
     freedoms: &Freedoms,
+    pairs: &SessionPairs,
     asked: &[u8],
     entry: &Entry,
     printed: &Printed,
 ) -> Result<Verdict, AllocError>
     ensures { IfOk result (λ verdict. verdict
-        ≡ entry_verdict freedoms.now asked.now entry.now printed.now) }
+        ≡ entry_verdict freedoms.now pairs.now asked.now entry.now printed.now) }
 {
     let line = entry.line.as_slice();
     let heard = entry.answers.as_slice();
-    let said = Lines::of_script(alloc, printed.said.as_slice())?;
-    let wanted = wanted_of(alloc, heard, said.as_slice())?;
+    let wanted = wanted_at(alloc, pairs, entry, printed)?;
     let other = Lines::of_script(alloc, printed.other.as_slice())?;
     let other = first_answer(other.as_slice());
     let reasons = reasons_told(line, own_reasons(printed), asked);
@@ -195,6 +220,25 @@ fn entry_verdict(
         other,
         reasons,
     )
+}
+
+/// The freedom by which the answers to a line differ from what must be said.
+fn freedom_at(
+    alloc: Global,
+    freedoms: &Freedoms,
+    pairs: &SessionPairs,
+    entry: &Entry,
+    printed: &Printed,
+) -> Result<Option<Freedom>, AllocError>
+    ensures { IfOk result (λ freedom. freedom
+        ≡ freedom_at freedoms.now pairs.now entry.now printed.now) }
+{
+    let line = entry.line.as_slice();
+    let heard = entry.answers.as_slice();
+    let wanted = wanted_at(alloc, pairs, entry, printed)?;
+    let other = Lines::of_script(alloc, printed.other.as_slice())?;
+    let other = first_answer(other.as_slice());
+    freedom_of(alloc, freedoms, line, heard, wanted.as_slice(), other)
 }
 
 /// The reasons of what a line prints.
@@ -213,12 +257,14 @@ pub struct Judging {
     pub other: Text,
     /// The reasons of the last line that does not receive.
     pub asked: Text,
+    /// The numbers of the sessions that began.
+    pub pairs: SessionPairs,
     pub rulings: Rulings,
 }
 
 impl Judging {
     ghost use Rattle.std.specs.Prelude.{◌≡◌, ◌++◌, ◌∷◌, [], OnOk};
-    ghost use Rattle.judged.specs.Judgements.{nothing_judged, rulings_at, asked_behind, entry_added};
+    ghost use Rattle.judged.specs.Judgements.{nothing_judged, rulings_at, asked_behind, pairs_behind, entry_added};
 
     /// Nothing is judged.
     fn new(alloc: Global) -> Judging
@@ -228,6 +274,7 @@ impl Judging {
             script: Text::new(alloc),
             other: Text::new(alloc),
             asked: Text::new(alloc),
+            pairs: SessionPairs::new(alloc),
             rulings: Rulings::new(alloc),
         }
     }
@@ -243,14 +290,15 @@ impl Judging {
         ensures script { self.new.script ≡ self.old.script }
         ensures other { self.new.other ≡ self.old.other }
         ensures asked { self.new.asked ≡ self.old.asked }
+        ensures pairs { self.new.pairs ≡ self.old.pairs }
         ensures rulings { OnOk result (self.new.rulings ≡ self.old.rulings
-            ++ rulings_at freedoms.now self.old.asked entry.now printed.now) }
+            ++ rulings_at freedoms.now self.old.pairs self.old.asked entry.now printed.now) }
     {
         if entry.answers.as_slice().is_empty() {
             return Ok(());
         }
         let asked = self.asked.as_slice();
-        let verdict = entry_verdict(alloc, freedoms, asked, entry, printed)?;
+        let verdict = entry_verdict(alloc, freedoms, &self.pairs, asked, entry, printed)?;
         self.rulings.push(Ruling {
             number: entry.number,
             changes: can_change(entry.line.as_slice()),
@@ -268,6 +316,7 @@ impl Judging {
         ensures script { self.new.script ≡ self.old.script }
         ensures other { self.new.other ≡ self.old.other }
         ensures rulings { self.new.rulings ≡ self.old.rulings }
+        ensures pairs { self.new.pairs ≡ self.old.pairs }
         ensures asked { OnOk result (self.new.asked
             ≡ asked_behind self.old.asked entry.now printed.now) }
     {
@@ -276,6 +325,30 @@ impl Judging {
         }
         self.asked = Text::new(alloc);
         self.asked.append(own_reasons(printed))
+    }
+
+    /// Keeps the numbers of a session, where one begins.
+    fn keep_numbers(
+        &mut self,
+        alloc: Global,
+        freedoms: &Freedoms,
+        entry: &Entry,
+        printed: &Printed,
+    ) -> Result<(), AllocError>
+        ensures pairs { OnOk result (self.new.pairs
+            ≡ pairs_behind freedoms.now self.old.pairs entry.now printed.now) }
+        ensures script { self.new.script ≡ self.old.script }
+        ensures other { self.new.other ≡ self.old.other }
+        ensures asked { self.new.asked ≡ self.old.asked }
+        ensures rulings { self.new.rulings ≡ self.old.rulings }
+    {
+        let said = said_at(alloc, entry, printed)?;
+        let Some(model) = number_told(alloc, first_answer(said.as_slice()))? else {
+            return Ok(());
+        };
+        let freedom = freedom_at(alloc, freedoms, &self.pairs, entry, printed)?;
+        let heard = number_told(alloc, first_answer(entry.answers.as_slice()))?;
+        self.pairs.add(model, number_given(freedom, heard, model))
     }
 
     /// Judges the answers to one line more, for which the model prints this.
@@ -291,22 +364,45 @@ impl Judging {
     {
         self.judge(alloc, freedoms, entry, printed)?;
         self.keep_reasons(alloc, entry, printed)?;
+        self.keep_numbers(alloc, freedoms, entry, printed)?;
         entry.append_text(&mut self.script)?;
         append_other_text(&mut self.other, entry)
     }
 }
 
 /// Whether the answers to a line, if there are some, are what the model prints.
-fn answers_agree(alloc: Global, entry: &Entry, said: &[u8]) -> Result<bool, AllocError>
-    ensures { IfOk result (λ agree. agree ≡ answers_agree entry.now said.now) }
+fn answers_agree(entry: &Entry, said: &[u8]) -> bool
+    ensures { result ≡ answers_agree entry.now said.now }
 {
-    if entry.answers.len() == 0 {
-        return Ok(true);
-    }
-    let heard = entry.answers.as_slice();
-    let said = Lines::of_script(alloc, said)?;
-    let wanted = wanted_of(alloc, heard, said.as_slice())?;
-    Ok(are_same(heard, wanted.as_slice()))
+    entry.answers.len() == 0 || agree_with(entry.answers.as_slice(), said)
+}
+
+/// Does a line and the remarks behind it, by a text that has room, and tells whether its answers are what the line prints.
+fn entry_agrees(
+    options: &Options,
+    run: &mut SteppedRun,
+    entry: &Entry,
+    text: &mut Text,
+) -> Result<bool, RunError>
+    requires { RunStands run.old }
+    ensures stands { OnOk result (RunStands run.new) }
+    ensures ran { OnOk result ((explains : Bool) (before : List ℕ)
+        → RanTo run.old explains options.now before
+        → RanTo run.new explains options.now (before ++ entry_text entry.now)) }
+    ensures agrees { IfOk result (λ agree. (explains : Bool) (before : List ℕ)
+        → RanTo run.old explains options.now before
+        → agree ≡ answers_agree entry.now (text_behind explains options.now before
+        (through before entry.now))) }
+{
+    text.clear();
+    entry.append_line_text(text)?;
+    let size = run.printed().len();
+    run.go_on(options, text.as_slice())?;
+    let agree = answers_agree(entry, behind(run.printed(), size));
+    text.clear();
+    entry.append_remarks(text)?;
+    run.go_on(options, text.as_slice())?;
+    Ok(agree)
 }
 
 /// Judges the answers to a line that agree.
@@ -334,13 +430,13 @@ fn agree_on(
     requires ran { RanTo run.old false options.now [] }
     ensures rulings { IfOk result (λ agreed. IfSome agreed (λ judged. (freedoms : List Freedom)
         → judged.0 ≡ rulings_of options.now freedoms entries.now)) }
-    ensures status { IfOk result (λ agreed. IfSome agreed (λ judged. judged.1
-        ≡ (run_outcome_of options.now (script_of entries.now)).status)) }
+    ensures status { IfOk result (λ agreed. IfSome agreed (λ judged. (freedoms : List Freedom)
+        → judged.1 ≡ script_status options.now freedoms entries.now)) }
 {
     let mut rulings = Rulings::new(alloc);
+    let mut text = Text::new(alloc);
     for entry in entries {
-        let said = print_entry(alloc, options, run, entry)?;
-        if !answers_agree(alloc, entry, said.as_slice())? {
+        if !entry_agrees(options, run, entry, &mut text)? {
             return Ok(None);
         }
         add_agreement(&mut rulings, entry)?;
@@ -348,27 +444,46 @@ fn agree_on(
     Ok(Some((rulings, run.status())))
 }
 
-/// How the answers of a transcript stand to what these runs print, of which no line has run.
+/// How the answers of a transcript stand to what these runs print, of which no line has run, and the status of the script.
 fn judge_on(
     alloc: Global,
     options: &Options,
     freedoms: &Freedoms,
     bench: &mut Bench,
     entries: &[Entry],
-) -> Result<(Rulings, u8), RunError>
+) -> Result<(Judging, u8), RunError>
     requires stands { BenchStands bench.old }
     requires fits { BenchFits bench.old options.now nothing_judged }
-    ensures rulings { IfOk result (λ judged. judged.0
-        ≡ rulings_of options.now freedoms.now entries.now) }
+    ensures judging { IfOk result (λ judged. judged.0
+        ≡ judging_of options.now freedoms.now entries.now) }
     ensures status { IfOk result (λ judged. judged.1
-        ≡ (run_outcome_of options.now (script_of entries.now)).status) }
+        ≡ script_status options.now freedoms.now entries.now) }
 {
     let mut judging = Judging::new(alloc);
     for entry in entries {
-        let printed = bench.print(alloc, options, entry)?;
-        judging.add(alloc, freedoms, entry, &printed)?;
+        let entry = judging.pairs.as_model(alloc, entry)?;
+        let printed = bench.print(alloc, options, &entry)?;
+        judging.add(alloc, freedoms, &entry, &printed)?;
     }
-    Ok((judging.rulings, bench.status()))
+    Ok((judging, bench.status()))
+}
+
+/// How the answers of a transcript stand to what the model prints, and the status of its script, line by line.
+pub(crate) fn judge_each(
+    alloc: Global,
+    options: &Options,
+    freedoms: &Freedoms,
+    entries: &[Entry],
+) -> Result<(Judging, u8), RunError>
+    ensures judging { IfOk result (λ judged. judged.0
+        ≡ judging_of options.now freedoms.now entries.now) }
+    ensures status { IfOk result (λ judged. judged.1
+        ≡ script_status options.now freedoms.now entries.now) }
+{
+    let mut bench = Bench::new(alloc);
+    let judged = judge_on(alloc, options, freedoms, &mut bench, entries);
+    drop(bench);
+    judged
 }
 
 /// How the answers of a transcript stand to the model's, and the status of its script. The script runs once where all agree.
@@ -381,7 +496,7 @@ pub(crate) fn judge_all(
     ensures rulings { IfOk result (λ judged. judged.0
         ≡ rulings_of options.now freedoms.now entries.now) }
     ensures status { IfOk result (λ judged. judged.1
-        ≡ (run_outcome_of options.now (script_of entries.now)).status) }
+        ≡ script_status options.now freedoms.now entries.now) }
 {
     let mut run = SteppedRun::new(alloc, false);
     let agreed = agree_on(alloc, options, &mut run, entries);
@@ -389,8 +504,6 @@ pub(crate) fn judge_all(
     if let Some(judged) = agreed? {
         return Ok(judged);
     }
-    let mut bench = Bench::new(alloc);
-    let judged = judge_on(alloc, options, freedoms, &mut bench, entries);
-    drop(bench);
-    judged
+    let (judging, status) = judge_each(alloc, options, freedoms, entries)?;
+    Ok((judging.rulings, status))
 }

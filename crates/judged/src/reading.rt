@@ -1,10 +1,11 @@
 //! Transcripts as they are read.
 
 ghost use Rattle.std.specs.Prelude.{◌≡◌, IfOk};
+ghost use Rattle.tool.specs.Scripts.{script_lines};
 ghost use Rattle.judged.specs.Transcripts.{holds_remarks, entries_of};
 
 use crate::entry::{Entries, Entry, answer_told, is_answer_line};
-use basics::Bytes;
+use runs::explored::first_line;
 use std::alloc::{AllocError, Global};
 use std::mem;
 use tool::{is_skipped, may_hold_remarks};
@@ -81,24 +82,29 @@ impl Reading {
     }
 }
 
-/// Whether remarks may stand among these lines.
-fn holds_remarks(lines: &[Bytes]) -> bool
-    ensures { result ≡ holds_remarks lines.now }
+/// Whether remarks may stand among the lines of a text.
+fn holds_remarks(text: &[u8]) -> bool
+    ensures { result ≡ holds_remarks (script_lines text.now) }
 {
-    match lines {
-        [] => false,
-        [first, ..] => may_hold_remarks(first.as_slice()),
+    if text.is_empty() {
+        return false;
     }
+    may_hold_remarks(first_line(text).0)
 }
 
 /// The lines of a transcript's script, each with its answers.
-pub(crate) fn entries_of(alloc: Global, lines: &[Bytes]) -> Result<Entries, AllocError>
-    ensures { IfOk result (λ entries. entries ≡ entries_of lines.now) }
+pub(crate) fn entries_of(alloc: Global, text: &[u8]) -> Result<Entries, AllocError>
+    ensures { IfOk result (λ entries. entries ≡ entries_of (script_lines text.now)) }
 {
-    let remarks = holds_remarks(lines);
+    let remarks = holds_remarks(text);
     let mut reading = Reading::new(alloc);
-    for (place, line) in lines.iter().enumerate() {
-        reading.add(alloc, remarks, place as u64 + 1, line.as_slice())?;
+    let mut rest = text;
+    let mut number = 0;
+    while !rest.is_empty() {
+        let (line, behind) = first_line(rest);
+        number += 1;
+        reading.add(alloc, remarks, number, line)?;
+        rest = behind;
     }
     reading.into_entries()
 }

@@ -2,19 +2,18 @@
 
 ghost use Rattle.std.specs.Prelude.{◌≡◌, ◌≤◌, IfOk};
 ghost use Rattle.std.specs.Io.KnownBytes.{Appends};
-ghost use Rattle.runs.specs.Stepped.{RunStands};
 ghost use Rattle.tool.specs.Outcomes.{Yields};
 ghost use Rattle.judged.specs.Judgements.{rulings_told, judgement_of_entries, JudgesTranscript};
 
+use crate::answers::behind;
 use crate::entry::Entry;
 use crate::freedom::Freedoms;
-use crate::judging::judge_all;
+use crate::judging::{judge_all, judge_each};
 use crate::reading::entries_of;
 use crate::ruling::Ruling;
 use crate::telling::{faults_in, rulings_text};
-use crate::text::Text;
 use runs::explored::{Lines, whole_text};
-use runs::recorded::SteppedRun;
+use script_lines::number_up_to;
 use std::alloc::Global;
 use std::io;
 use std::io::{Read, Write};
@@ -29,10 +28,10 @@ pub struct Terms {
     pub quiet: bool,
 }
 
-/// Writes what is wrong with a line, which stands in what was told of it behind its place.
+/// Writes what is wrong with a line, which stands in what was told of it behind the word `line` and its place in the script.
 fn tell_line<E: Write>(
     alloc: Global,
-    number: u64,
+    entries: &[Entry],
     told: &[u8],
     faults: &mut E,
 ) -> Result<(), RunError> {
@@ -42,6 +41,8 @@ fn tell_line<E: Write>(
         [] => &[],
     };
     let place = last.iter().position(|byte| *byte == b':').unwrap_or(0);
+    let number = number_up_to(u64::MAX, behind(&last[..place], 5)).unwrap_or(0);
+    let number = number_in_transcript(entries, number);
     write!(faults, "line {number}").map_err(|_| RunError::Write)?;
     faults
         .write_all(&last[place..])
@@ -49,43 +50,32 @@ fn tell_line<E: Write>(
     writeln!(faults).map_err(|_| RunError::Write)
 }
 
-/// The text of a script through the line that ends it before its end, and the number of that line in the transcript.
-fn script_to_end(
-    alloc: Global,
-    options: &Options,
-    run: &mut SteppedRun,
-    entries: &[Entry],
-) -> Result<(Text, u64), RunError>
-    requires { RunStands run.old }
-{
-    let mut script = Text::new(alloc);
+/// The number in the transcript of a line of the script.
+fn number_in_transcript(entries: &[Entry], number: u64) -> u64 {
+    let mut left = number;
     for entry in entries {
-        let mut text = Text::new(alloc);
-        entry.append_text(&mut text)?;
-        script.append(text.as_slice())?;
-        run.go_on(options, text.as_slice())?;
-        if run.status() != 0 {
-            return Ok((script, entry.number));
+        let lines = (entry.behind.len() as u64).saturating_add(u64::from(entry.number != 0));
+        if left <= lines {
+            return entry.number;
         }
+        left -= lines;
     }
-    Ok((script, 0))
+    0
 }
 
 /// Tells at which line the script of a transcript ends before its end, and why.
 fn tell_end<E: Write>(
     alloc: Global,
     options: &Options,
+    freedoms: &Freedoms,
     entries: &[Entry],
     faults: &mut E,
 ) -> Result<(), RunError> {
-    let mut run = SteppedRun::new(alloc, false);
-    let found = script_to_end(alloc, options, &mut run, entries);
-    drop(run);
-    let (script, number) = found?;
+    let (judging, _) = judge_each(alloc, options, freedoms, entries)?;
     let mut told = Vec::new(alloc);
-    let text = script.as_slice();
+    let text = judging.script.as_slice();
     run_script_with_faults(alloc, text, &mut io::sink(), &mut told, options)?;
-    tell_line(alloc, number, &told, faults)
+    tell_line(alloc, entries, &told, faults)
 }
 
 /// Writes what is told of answers, and gives the status: 1 where one is wrong.
@@ -122,7 +112,7 @@ fn judge_script<W: Write, E: Write>(
 {
     let (rulings, status) = judge_all(alloc, options, &terms.freedoms, entries)?;
     if status != 0 {
-        tell_end(alloc, options, entries, faults)?;
+        tell_end(alloc, options, &terms.freedoms, entries, faults)?;
         return Ok(2);
     }
     tell_rulings(alloc, terms.quiet, rulings.as_slice(), output)
@@ -152,7 +142,6 @@ pub fn judge_transcript<R: Read + Drop, W: Write, E: Write>(
         (R.remaining input) status (W.contents output.old) (W.contents output.new)) }
 {
     let text = whole_text(alloc, input)?;
-    let lines = Lines::of_script(alloc, &text)?;
-    let entries = entries_of(alloc, lines.as_slice())?;
+    let entries = entries_of(alloc, &text)?;
     judge_script(alloc, entries.as_slice(), output, faults, options, terms)
 }

@@ -31,6 +31,13 @@ impl Text {
         }
     }
 
+    /// No byte any more, with the same room.
+    pub fn clear(&mut self)
+        ensures { self.new ≡ [] }
+    {
+        self.items.clear();
+    }
+
     /// The bytes.
     pub fn as_slice(&self) -> &[u8]
         ensures { result.now ≡ self.now }

@@ -15,10 +15,11 @@ and behind a wrong one the reasons of a refusal, as `opalport run --explain` tel
   judged N answers: A agree, F by a freedom, W wrong
 
 Freedoms, which the standards leave to a drive:
-  error-bits     bits of the Error field without a meaning, beside ABRT (ACS-3, section 6.3)
-  blank-sectors  what sectors hold that nothing has written, or that an erasure wiped
-  vendor-bytes   bytes 16 to 47 of Level 0 discovery (TCG Core 2.01, section 3.3.6)
-  identity       serial number, firmware, model and World Wide Name in IDENTIFY DEVICE data (ACS-3)
+  error-bits       bits of the Error field without a meaning, beside ABRT (ACS-3, section 6.3)
+  blank-sectors    what sectors hold that nothing has written, or that an erasure wiped
+  vendor-bytes     bytes 16 to 47 of Level 0 discovery (TCG Core 2.01, section 3.3.6)
+  identity         serial number, firmware, model, World Wide Name in IDENTIFY DEVICE data (ACS-3)
+  session-numbers  the number that the drive gives a session (TCG Core 2.01, section 5.2.3)
 
 Status: 0 no answer is wrong, 1 one is, 2 the script of the transcript does not run to its end, bad
 usage or an error";

@@ -2,6 +2,3 @@ use Rattle.judged.proofs.judging.judge_all.Goals as goal
 
 pub agree_on-agreed-requires-clause-ran : goal.agree_on-agreed-requires-clause-ran
 agree_on-agreed-requires-clause-ran c = c.new-run.ensures.ran c.args.options.now
-
-pub judge_on-judged-requires-clause-fits : goal.judge_on-judged-requires-clause-fits
-judge_on-judged-requires-clause-fits c = c.new-bench.ensures.fits c.args.options.now

@@ -3,7 +3,7 @@ use Rattle.tool.specs.Outcomes.{run_outcome_of}
 use Rattle.judged.specs.Benches.{BenchFits}
 use Rattle.judged.specs.Judgements.{with_entry}
 use Rattle.judged.specs.declared.judging.Judging.{Judging}
-use Rattle.judged.proofs.Folded.{one_more, goes_on, all_judged, whole_script}
+use Rattle.judged.proofs.Folded.{one_more, goes_on, all_judged}
 use Rattle.judged.proofs.judging.judge_on.Goals as goal
 
 pub loop-entry-init : goal.loop-entry-init
@@ -21,20 +21,18 @@ loop-entry-preserved c =
       c.in_ok-printed.ensures.stands,
       c.in_ok-printed.ensures.fits judging c.add.new.self fits (goes_on c.args.freedoms.now judging c.add.new.self _ _ adds),
       one_more c.args.options.now c.args.freedoms.now judging c.add.new.self _ c.args.entries.now c.loop-entry.entry-index (c.loop-entry.entry-index + 1)
-          c.entry-item.result _ c.in_ok-printed.printed c.loop-entry-test.true refl c.entry-item.is adds
+          c.entry-item.result _ c.in_ok-entry.entry c.in_ok-printed.printed c.loop-entry-test.true refl c.entry-item.is c.in_ok-entry.ensures adds
           (c.in_ok-printed.ensures.printed judging fits) c.loop-entry.invariant.2,
     )
 
-pub returns-clause-rulings : goal.returns-clause-rulings
-returns-clause-rulings c =
-    ap (λ (j : Judging). j.rulings)
-    (all_judged c.args.options.now c.args.freedoms.now c.loop-entry.judging c.args.entries.now c.loop-entry.entry-index c.loop-entry-test.false
-    c.loop-entry.invariant.2)
+pub returns-clause-judging : goal.returns-clause-judging
+returns-clause-judging c =
+    all_judged c.args.options.now c.args.freedoms.now c.loop-entry.judging c.args.entries.now c.loop-entry.entry-index c.loop-entry-test.false
+    c.loop-entry.invariant.2
 
 pub returns-clause-status : goal.returns-clause-status
 returns-clause-status c =
     c.status.ensures c.args.options.now c.loop-entry.judging c.loop-entry.invariant.1
-    ∙ ap (λ script. (run_outcome_of c.args.options.now script).status)
-    (whole_script c.args.options.now c.args.freedoms.now c.loop-entry.judging c.args.entries.now
+    ∙ ap (λ (j : Judging). (run_outcome_of c.args.options.now j.script).status)
     (all_judged c.args.options.now c.args.freedoms.now c.loop-entry.judging c.args.entries.now c.loop-entry.entry-index c.loop-entry-test.false
-    c.loop-entry.invariant.2))
+    c.loop-entry.invariant.2)
