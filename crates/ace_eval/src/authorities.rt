@@ -1,12 +1,13 @@
 //! The authorities of a session.
 
-ghost use Rattle.std.specs.Prelude.{◌≡◌, ◌≤◌, ◌<◌, ◌↔◌, ◌⊎◌, ◌==◌, ◌||◌, List, [], ◌∷◌, ◌++◌, length, IsTrue, if◌then◌else◌};
+ghost use Rattle.std.specs.Prelude.{◌≡◌, ◌≤◌, ◌<◌, ◌↔◌, ◌⊎◌, ◌==◌, ◌||◌, List, [], ◌∷◌, ◌++◌, length, IsTrue, IfOk, if◌then◌else◌};
 ghost use Rattle.sp_cells.specs.declared.names.Uid.{Uid as UidValue};
 ghost use Rattle.ace_eval.specs.Truth.{has};
 ghost use Rattle.ace_eval.specs.declared.authorities.TheConstants.{MOST_AUTHORITIES};
 
 use arrayvec::ArrayVec;
 use sp_cells::Uid;
+use std::alloc::AllocError;
 use std::marker::Model;
 
 /// How many authorities a set has room for.
@@ -38,6 +39,14 @@ impl Authorities {
         Authorities {
             uids: ArrayVec::new(),
         }
+    }
+
+    /// The same set once more.
+    pub fn copy(&self) -> Result<Authorities, AllocError>
+        ensures { IfOk result (λ copied. copied ≡ self.now) }
+    {
+        let uids = self.uids.clone()?;
+        Ok(Authorities { uids })
     }
 
     /// Whether the authority is in the set.

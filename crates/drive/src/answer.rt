@@ -304,12 +304,11 @@ pub(crate) fn served_form(command: &Command, settings: &Settings) -> Form
     ensures { form_fises result false ready 0 ≡ served_fises settings.now command.now }
 {
     match *command {
-        Command::Send { dma: false, .. } => Form::PioOut,
+        Command::Send { dma: false, .. } | Command::WritePio { .. } => Form::PioOut,
         Command::Receive { dma: false, .. } => Form::PioIn,
         Command::ReadLog10 { dma: false } => Form::PioIn,
         Command::ReadLog { dma: false, .. } => Form::PioIn,
         Command::Identify | Command::ReadPio { .. } => Form::PioIn,
-        Command::WritePio { .. } => Form::PioOut,
         Command::Control {
             control: Control::Diagnose,
         } => Form::Diagnosed,

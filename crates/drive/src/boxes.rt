@@ -16,6 +16,7 @@ use std::alloc::{AllocError, Global};
 use tper::Tper;
 
 /// A value in a box of its own.
+#[inline(always)]
 fn boxed<T: Drop>(alloc: Global, value: T) -> Result<Box<T>, AllocError>
     ensures { IfOk result (λ b. b.value ≡ value) }
 {
@@ -59,4 +60,31 @@ pub(crate) fn new_media(alloc: Global, sectors: u64) -> Result<Box<Media>, Alloc
     ensures blank { IfOk result (λ media. (s : ℕ) → sector_at media.value s ≡ zeros) }
 {
     boxed(alloc, Media::new(alloc, sectors))
+}
+
+/// The same TPer once more. It is a call of its own for the stack that it takes, as are the two below.
+#[inline(never)]
+pub(crate) fn copy_tper(alloc: Global, tper: &Tper) -> Result<Box<Tper>, AllocError>
+    ensures { IfOk result (λ copied. copied.value ≡ tper.now) }
+{
+    boxed(alloc, tper.copy()?)
+}
+
+/// The same queue once more.
+#[inline(never)]
+pub(crate) fn copy_queue(alloc: Global, queue: &Queue) -> Result<Box<Queue>, AllocError>
+    ensures { IfOk result (λ copied. copied.value ≡ queue.now) }
+{
+    match Box::new(alloc, *queue) {
+        Ok(boxed) => Ok(boxed),
+        Err(_) => Err(AllocError),
+    }
+}
+
+/// The same media once more.
+#[inline(never)]
+pub(crate) fn copy_media(alloc: Global, media: &Media) -> Result<Box<Media>, AllocError>
+    ensures { IfOk result (λ copied. copied.value ≡ media.now) }
+{
+    boxed(alloc, media.copy()?)
 }

@@ -412,6 +412,7 @@ impl Drive {
 
     /// Whether a command is for the stack of a ComID, of a drive of `Opal`.
     fn asks_stack(&self, command: &Command) -> bool
+        requires { IsTrustedCommand command.now }
         ensures { result ≡ is_for_stack self.now.tper.store.config.profile command.now }
     {
         match *command {
@@ -427,7 +428,7 @@ impl Drive {
                 blocks,
                 ..
             } => asks_stack(self.profile(), protocol, sp_specific, blocks),
-            _ => false,
+            _ => unreachable!(),
         }
     }
 
@@ -465,7 +466,7 @@ impl Drive {
                     || is_trusted(protocol, blocks)
                         && (is_session_com_id(sp_specific) || sp_specific == DISCOVERY_COM_ID)
             }
-            _ => false,
+            _ => unreachable!(),
         };
         if is_taken {
             Decision::Executes(command)

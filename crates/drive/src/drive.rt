@@ -7,7 +7,7 @@ ghost use Rattle.locking.specs.Ranges.{ranges_in};
 ghost use Rattle.transactions.specs.Sights.{look_up};
 
 use crate::answer::{Accepted, Completed};
-use crate::boxes::{new_media, new_queue, tper_over};
+use crate::boxes::{copy_media, copy_queue, copy_tper, new_media, new_queue, tper_over};
 use crate::decision::{ABORTED, Decision, Objection, Refusal, permission, policy};
 use crate::error::DriveError;
 use crate::heads::heads;
@@ -183,6 +183,29 @@ impl Drive {
             media,
             settings: Settings::first(),
             spare: Vec::new(alloc),
+        })
+    }
+
+    /// The same drive once more, in memory of its own: what was done with the one was done with the other, so that both
+    /// answer the same, and what is done with either from now on changes nothing of the other. Where memory is refused
+    /// there is no copy.
+    pub fn copy(&self) -> Result<Drive, AllocError>
+        ensures { IfOk result (λ copied. copied ≡ self.now) }
+    {
+        let tper = copy_tper(self.alloc, &self.tper)?;
+        let ranges = Ranges::of(self.alloc, &tper.in_force())?;
+        let queue = copy_queue(self.alloc, &self.queue)?;
+        let media = copy_media(self.alloc, &self.media)?;
+        Ok(Drive {
+            alloc: self.alloc,
+            sectors: self.sectors,
+            profile: self.profile,
+            ranges,
+            tper,
+            queue,
+            media,
+            settings: self.settings,
+            spare: Vec::new(self.alloc),
         })
     }
 

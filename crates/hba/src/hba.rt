@@ -1,6 +1,6 @@
 //! An HBA with one port, and the drive behind it.
 
-ghost use Rattle.std.specs.Prelude.{◌≡◌, List, ◌∷◌, if◌then◌else◌};
+ghost use Rattle.std.specs.Prelude.{◌≡◌, List, ◌∷◌, IfOk, if◌then◌else◌};
 ghost use Rattle.history.specs.Opening.{Origin};
 ghost use Rattle.history.specs.History.{Act, Reset};
 ghost use Rattle.sp_cells.specs.Resets.{hardware};
@@ -9,7 +9,7 @@ ghost use Rattle.hba.specs.History.{act_count};
 
 use crate::registers::Registers;
 use drive::{Drive, ResetKind};
-use std::alloc::Global;
+use std::alloc::{AllocError, Global};
 use std::marker::Model;
 
 /// An HBA with one port, and the drive behind it.
@@ -79,6 +79,21 @@ impl Hba {
             registers: Registers::new(),
             room: Vec::new(alloc),
         }
+    }
+
+    /// The same HBA once more, with its drive, in memory of their own: the operations with which the one agrees are those with
+    /// which the other does. Where memory is refused there is no copy.
+    pub fn copy(&self) -> Result<Hba, AllocError>
+        ensures { IfOk result (λ copied. copied ≡ self.now) }
+    {
+        let drive = self.drive.copy()?;
+        Ok(Hba {
+            alloc: self.alloc,
+            drive,
+            acts: self.acts,
+            registers: self.registers.copy(),
+            room: Vec::new(self.alloc),
+        })
     }
 
     /// The word that the host reads at an offset: 0 where no register stands. Nothing changes.

@@ -185,6 +185,26 @@ impl Registers {
         }
     }
 
+    /// The same registers once more.
+    pub(crate) fn copy(&self) -> Registers
+        ensures { result ≡ self.now }
+    {
+        Registers {
+            port: self.port.copy(),
+            interrupts_enabled: self.interrupts_enabled,
+            is_raised: self.is_raised,
+            is_signed: self.is_signed,
+            is_exchanged: self.is_exchanged,
+            has_phy_changed: self.has_phy_changed,
+            current: self.current,
+            is_halted: self.is_halted,
+            is_packet: self.is_packet,
+            has_light: self.has_light,
+            speed: self.speed,
+            in_reset: self.in_reset,
+        }
+    }
+
     /// A word of the port's own registers, 0 where none stands.
     fn kept_word(&self, offset: u32) -> u32
         ensures { result ≡ unwrap_or (port_word_at self.now.port offset) 0 }

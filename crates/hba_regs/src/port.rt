@@ -88,6 +88,25 @@ impl PortRegs {
         }
     }
 
+    /// The same registers once more.
+    pub fn copy(&self) -> PortRegs
+        ensures { result ≡ self.now }
+    {
+        PortRegs {
+            list_base: self.list_base,
+            fis_base: self.fis_base,
+            interrupts: self.interrupts,
+            enabled: self.enabled,
+            command: self.command,
+            status: self.status,
+            error: self.error,
+            control: self.control,
+            link_errors: self.link_errors,
+            active: self.active,
+            issued: self.issued,
+        }
+    }
+
     fn command_word(&self) -> u32
         ensures { result ≡ command_word self.now.running self.now.receiving }
     {

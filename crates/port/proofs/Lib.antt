@@ -13,3 +13,4 @@ pub mod Restarting
 pub mod Readies
 pub mod Layers
 pub mod Living
+pub mod CopyLemmas

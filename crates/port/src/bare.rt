@@ -73,6 +73,24 @@ impl BarePort {
         })
     }
 
+    /// The same port once more, in memory of its own.
+    pub(crate) fn copy(&self) -> Result<BarePort, AllocError>
+        ensures { IfOk result (λ copied. copied ≡ self.now) }
+    {
+        Ok(BarePort {
+            alloc: self.alloc,
+            drive: self.drive.copy()?,
+            slots: self.slots.copy(self.alloc)?,
+            outcomes: self.outcomes,
+            failed: self.failed,
+            memory: self.memory.copy()?,
+            regs: self.regs.copy(),
+            count: self.count,
+            rule: self.rule,
+            answer: Accepted::none(self.alloc),
+        })
+    }
+
     /// What allocates.
     pub(crate) fn alloc(&self) -> Global {
         self.alloc

@@ -11,6 +11,7 @@ mod built;
 mod checks;
 mod engine;
 mod host;
+mod lines;
 mod live;
 mod live_steps;
 mod outcome;
@@ -21,6 +22,7 @@ mod restarts;
 mod stages;
 
 pub use built::{Built, fits};
+pub use lines::copy_line;
 pub use live::{LivePort, laws_of_lines};
 pub use outcome::Outcome;
 pub use port::Port;

@@ -1,9 +1,10 @@
 //! A port that lives: it keeps no history.
 
-ghost use Rattle.std.specs.Prelude.{◌≡◌};
+ghost use Rattle.std.specs.Prelude.{◌≡◌, IfOk};
 ghost use Rattle.port.specs.Live.{most_lines};
 
 use crate::bare::BarePort;
+use crate::lines::copy_line;
 use audit::AuditLine;
 use audit::rules::Rule;
 use circular_buffer::HeapCircularBuffer;
@@ -49,6 +50,24 @@ impl Model for LivePort {
     ghost invariant = { λ p. (p.latest.capacity ≡ most_lines) × (p.denials ≤ p.bare.count) };
 }
 
+/// The same lines once more.
+fn copy_lines(
+    alloc: Global,
+    lines: &HeapCircularBuffer<AuditLine>,
+) -> Result<HeapCircularBuffer<AuditLine>, AllocError>
+    requires { lines.now.capacity ≡ most_lines }
+    ensures { IfOk result (λ copied. copied ≡ lines.now) }
+{
+    let mut copies = HeapCircularBuffer::with_capacity(alloc, MOST_LINES)?;
+    for at in 0..lines.len() {
+        let Some(line) = lines.get(at) else {
+            unreachable!()
+        };
+        copies.push_back(copy_line(line)?);
+    }
+    Ok(copies)
+}
+
 impl LivePort {
     ghost use Rattle.std.specs.Prelude.{◌≡◌, ◌+◌, ◌-◌, ◌||◌, ◌<◌, ℕ, [], List, length, reverse, option_copied, IfOk, IsOkUnless, Ok};
     ghost use Rattle.std.specs.Int.{bit_at};
@@ -90,6 +109,21 @@ impl LivePort {
         Ok(LivePort {
             bare,
             denials: 0,
+            latest,
+        })
+    }
+
+    /// The same port once more, in memory of its own: the steps with which the one agrees are those with which the other does,
+    /// so that both answer the same, and what is done with either from now on changes nothing of the other. Where memory is
+    /// refused there is no copy.
+    pub fn copy(&self) -> Result<LivePort, AllocError>
+        ensures { IfOk result (λ copied. copied ≡ self.now) }
+    {
+        let latest = copy_lines(self.bare.alloc(), &self.latest)?;
+        let bare = self.bare.copy()?;
+        Ok(LivePort {
+            bare,
+            denials: self.denials,
             latest,
         })
     }

@@ -144,6 +144,17 @@ impl Stages {
         })
     }
 
+    /// The same slots once more.
+    pub(crate) fn copy(&self, alloc: Global) -> Result<Stages, AllocError>
+        ensures { IfOk result (λ copied. copied ≡ self.now) }
+    {
+        let stages = Box::new(alloc, *self.stages)?;
+        Ok(Stages {
+            stages,
+            all_queued: self.all_queued,
+        })
+    }
+
     /// The stage of a slot.
     pub(crate) fn at(&self, tag: Tag) -> Stage
         ensures { result ≡ stage_at self.now tag }

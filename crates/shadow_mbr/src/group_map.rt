@@ -118,7 +118,7 @@ fn erase_groups(
 }
 
 impl Groups {
-    ghost use Rattle.std.specs.Prelude.{◌≡◌, ◌<◌, ℕ, [], None, Some, IfSome, OnOk, OnErr, length, option_map, set, unwrap_or};
+    ghost use Rattle.std.specs.Prelude.{IfOk, ◌≡◌, ◌<◌, ℕ, [], None, Some, IfSome, OnOk, OnErr, length, option_map, set, unwrap_or};
     ghost use Rattle.std.specs.Option.{option_copied};
     ghost use Rattle.std.specs.Ordering.{nat_cmp};
     ghost use Rattle.std.specs.Map.{keys_of};
@@ -133,6 +133,17 @@ impl Groups {
             indexes: Indexes::new(alloc),
             groups: Vec::new(alloc),
         }
+    }
+
+    /// The same groups once more.
+    #[inline(always)]
+    pub(crate) fn copy(&self) -> Result<Groups, AllocError>
+        ensures { IfOk result (λ c. c ≡ self.now) }
+    {
+        Ok(Groups {
+            indexes: self.indexes.copy()?,
+            groups: self.groups.clone()?,
+        })
     }
 
     /// The group of a number.

@@ -58,7 +58,7 @@ fn put_entry(recent: &mut [Entry; RECENT_SIZE], number: u64, index: u32)
 }
 
 impl Indexes {
-    ghost use Rattle.std.specs.Prelude.{◌≡◌, ℕ, [], None, Some, OnOk, OnErr, cond};
+    ghost use Rattle.std.specs.Prelude.{IfOk, ◌≡◌, ℕ, [], None, Some, OnOk, OnErr, cond};
     ghost use Rattle.std.specs.BTreeMap.{is_at};
     ghost use Rattle.std.specs.Map.{keys_of};
     ghost use Rattle.std.specs.List.Sorted.{IsStrictlySortedBy};
@@ -72,6 +72,17 @@ impl Indexes {
             tree: BTreeMap::new(alloc),
             recent: no_recent(),
         }
+    }
+
+    /// The same numbers once more.
+    #[inline(always)]
+    pub(crate) fn copy(&self) -> Result<Indexes, AllocError>
+        ensures { IfOk result (λ c. c ≡ self.now) }
+    {
+        Ok(Indexes {
+            tree: self.tree.clone()?,
+            recent: self.recent,
+        })
     }
 
     /// Where the group of a number stands.

@@ -199,7 +199,7 @@ fn place_all(places: &mut Places, sectors: &[u64], from: usize) -> Result<(), Al
 }
 
 impl Kept {
-    ghost use Rattle.std.specs.Prelude.{take, ◌≡◌, ◌==◌, ◌-◌, ◌&&◌, nat_le, nat_lt, not, ◌+◌, ◌<◌, ◌≤◌, ◌++◌, ℕ, [], None, Some, OnOk, OnErr, IsTrue, ◌↔◌, ◌^◌, true, false, length, nat_eq, is_some, unwrap_or, if◌then◌else◌};
+    ghost use Rattle.std.specs.Prelude.{IfOk, take, ◌≡◌, ◌==◌, ◌-◌, ◌&&◌, nat_le, nat_lt, not, ◌+◌, ◌<◌, ◌≤◌, ◌++◌, ℕ, [], None, Some, OnOk, OnErr, IsTrue, ◌↔◌, ◌^◌, true, false, length, nat_eq, is_some, unwrap_or, if◌then◌else◌};
     ghost use Rattle.std.specs.List.{list_any};
     ghost use Rattle.std.specs.List.Sorted.{IsStrictlySortedBy};
     ghost use Rattle.std.specs.Map.{keys_of};
@@ -214,6 +214,19 @@ impl Kept {
             places: Places::new(alloc),
             blocks: Vec::new(alloc),
         }
+    }
+
+    /// The same sectors once more, in memory of their own.
+    #[inline(always)]
+    pub(crate) fn copy(&self, alloc: Global) -> Result<Kept, AllocError>
+        ensures { IfOk result (λ c. c ≡ self.now) }
+    {
+        let mut blocks = Vec::with_capacity(alloc, self.blocks.len())?;
+        blocks.extend_from_slice(&self.blocks)?;
+        Ok(Kept {
+            places: self.places.copy()?,
+            blocks,
+        })
     }
 
     /// Whether the sector is kept.

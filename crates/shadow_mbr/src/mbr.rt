@@ -21,7 +21,7 @@ impl Model for Mbr {
 }
 
 impl Mbr {
-    ghost use Rattle.std.specs.Prelude.{◌≡◌, ◌+◌, ◌*◌, ◌^◌, ◌≤◌, ◌<◌, ◌↔◌, ℕ, length, IsTrue, is_some, ◌||◌, OnOk, OnErr, [], slice_index};
+    ghost use Rattle.std.specs.Prelude.{IfOk, ◌≡◌, ◌+◌, ◌*◌, ◌^◌, ◌≤◌, ◌<◌, ◌↔◌, ℕ, length, IsTrue, is_some, ◌||◌, OnOk, OnErr, [], slice_index};
     ghost use Rattle.shadow_mbr.specs.Stored.{sector_size, sector_limit, AreKept, kept_at, has_byte, byte_at, byte_after};
 
     /// A table of so many sectors of 512 zeros.
@@ -34,6 +34,16 @@ impl Mbr {
         Mbr {
             held: Sectors::new(alloc, sectors),
         }
+    }
+
+    /// The same sectors once more, in memory of their own. Where memory is refused there is no copy.
+    #[inline(always)]
+    pub fn copy(&self) -> Result<Mbr, AllocError>
+        ensures { IfOk result (λ c. c ≡ self.now) }
+    {
+        Ok(Mbr {
+            held: self.held.copy()?,
+        })
     }
 
     /// How many sectors the table has.

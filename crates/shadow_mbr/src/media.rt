@@ -42,6 +42,16 @@ impl Media {
         }
     }
 
+    /// The same sectors once more, in memory of their own. Where memory is refused there is no copy.
+    #[inline(always)]
+    pub fn copy(&self) -> Result<Media, AllocError>
+        ensures { IfOk result (λ c. c ≡ self.now) }
+    {
+        Ok(Media {
+            held: self.held.copy()?,
+        })
+    }
+
     /// How many sectors the media have.
     pub fn sectors(&self) -> u64
         ensures { result ≡ self.now.sectors }

@@ -102,7 +102,7 @@ impl<'a> Finder<'a> {
 }
 
 impl Places {
-    ghost use Rattle.std.specs.Prelude.{◌≡◌, ◌==◌, ℕ, [], None, Some, OnOk, OnErr, if◌then◌else◌};
+    ghost use Rattle.std.specs.Prelude.{IfOk, ◌≡◌, ◌==◌, ℕ, [], None, Some, OnOk, OnErr, if◌then◌else◌};
     ghost use Rattle.std.specs.Ordering.{nat_cmp};
     ghost use Rattle.std.specs.Map.{keys_of};
     ghost use Rattle.std.specs.List.Sorted.{IsStrictlySortedBy};
@@ -115,6 +115,16 @@ impl Places {
         Places {
             groups: Groups::new(alloc),
         }
+    }
+
+    /// The same places once more.
+    #[inline(always)]
+    pub(crate) fn copy(&self) -> Result<Places, AllocError>
+        ensures { IfOk result (λ c. c ≡ self.now) }
+    {
+        Ok(Places {
+            groups: self.groups.copy()?,
+        })
     }
 
     /// Where the sector stands.

@@ -31,7 +31,7 @@ impl Model for Sectors {
 
 impl Sectors {
     ghost use Rattle.std.specs.Prelude.{◌≡◌, ◌+◌, ◌*◌, ◌/◌, ◌%◌, ◌≤◌, ◌<◌, ◌^◌, ◌==◌, ◌++◌, ℕ, length, OnOk, OnErr, IfOk, IsTrue, ◌↔◌, [], true, false, is_some, slice_index, take, drop, if◌then◌else◌};
-    ghost use Rattle.std.specs.Prelude.{nat_eq, ◌||◌, None, Some};
+    ghost use Rattle.std.specs.Prelude.{IfOk, nat_eq, ◌||◌, None, Some};
     ghost use Rattle.std.specs.List.{list_any};
     ghost use Rattle.shadow_mbr.specs.Stored.{IsSound, AreKept, ListsMissing, sector_size, sector_limit, heads, is_among, sector_filled, zeros, kept_at, sector_at, byte_at, byte_after, has_byte, sectors_from};
     ghost use Rattle.shadow_mbr.specs.Erasure.{is_erased};
@@ -46,6 +46,18 @@ impl Sectors {
             sectors,
             kept: Kept::new(alloc),
         }
+    }
+
+    /// The same sectors once more, in memory of their own.
+    #[inline(always)]
+    pub(crate) fn copy(&self) -> Result<Sectors, AllocError>
+        ensures { IfOk result (λ c. c ≡ self.now) }
+    {
+        Ok(Sectors {
+            alloc: self.alloc,
+            sectors: self.sectors,
+            kept: self.kept.copy(self.alloc)?,
+        })
     }
 
     /// Lets all go that is kept, and gives back its memory.

@@ -56,6 +56,14 @@ impl PortMemory {
         })
     }
 
+    /// The same memory once more.
+    pub fn copy(&self) -> Result<PortMemory, AllocError>
+        ensures { IfOk result (λ copied. copied ≡ self.now) }
+    {
+        let bytes = self.bytes.clone()?;
+        Ok(PortMemory { bytes })
+    }
+
     /// The memory with these bytes, or `None` where they are not as many as a memory has.
     pub fn of_bytes(bytes: Vec<u8>) -> Option<PortMemory>
         ensures some { IsSome result ↔ (length bytes.items ≡ memory_size) }

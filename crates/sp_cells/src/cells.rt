@@ -235,3 +235,17 @@ impl Cell {
         })
     }
 }
+
+/// These cells once more.
+pub fn copy_cells(
+    alloc: Global,
+    cells: &[(Column, Cell)],
+) -> Result<Vec<(Column, Cell)>, AllocError>
+    ensures { IfOk result (λ v. v.items ≡ cells.now) }
+{
+    let mut copies = Vec::with_capacity(alloc, cells.len())?;
+    for (column, cell) in cells {
+        copies.push((*column, cell.copy()?))?;
+    }
+    Ok(copies)
+}

@@ -265,6 +265,7 @@ impl DriveConfig {
     }
 
     /// The same configuration once more. It takes no memory of its own.
+    #[inline(always)]
     pub fn copy(&self) -> Result<DriveConfig, AllocError>
         ensures { IfOk result (λ c. c ≡ self.now) }
     {

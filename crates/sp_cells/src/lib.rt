@@ -17,7 +17,7 @@ pub mod values;
 pub use authorities::is_locking_authority;
 pub use basics::Bytes;
 pub use byte_tables::{ByteTable, TableSizes};
-pub use cells::{Cell, Columns, Element, Expr, ResetTypes};
+pub use cells::{Cell, Columns, Element, Expr, ResetTypes, copy_cells};
 pub use config::DriveConfig;
 pub use error::SetError;
 pub use laws::{laws_of_limits, laws_of_names};

@@ -3,3 +3,4 @@ pub mod RunLemmas
 pub mod ExchangeLemmas
 pub mod FamilyLemmas
 pub mod ColumnLemmas
+pub mod CopyLemmas

@@ -14,6 +14,6 @@ pub use halves::is_pin;
 pub use row_names::rows_of;
 pub use sp_cells::{
     ADMINS, ByteTable, Bytes, Cell, Column, Columns, DriveConfig, Element, Expr, RANGES,
-    ResetTypes, Rows, SetError, Sp, TableSizes, USERS, Uid, number_at,
+    ResetTypes, Rows, SetError, Sp, TableSizes, USERS, Uid, copy_cells, number_at,
 };
 pub use whole::Tables;

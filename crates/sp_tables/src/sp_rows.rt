@@ -6,6 +6,7 @@ mod aces;
 mod adding;
 mod constant_tables;
 pub mod constants;
+mod copies;
 mod entries;
 pub mod exchange;
 pub mod factory;

@@ -62,6 +62,18 @@ impl Tables {
         })
     }
 
+    /// The same tables once more, in memory of their own.
+    pub fn copy(&self) -> Result<Tables, AllocError>
+        ensures { IfOk result (λ copied. copied ≡ self.now) }
+    {
+        Ok(Tables {
+            alloc: self.alloc,
+            config: self.config.copy()?,
+            admin: self.admin.copy(self.alloc)?,
+            locking: self.locking.copy(self.alloc)?,
+        })
+    }
+
     /// What the drive was made with.
     pub fn config(&self) -> &DriveConfig
         ensures { result.now ≡ self.now.config }

@@ -1,6 +1,6 @@
 //! The responses that wait, and the room of one (TCG Core 2.01, section 3.3.10.3).
 
-ghost use Rattle.std.specs.Prelude.{◌≡◌, ◌==◌, ◌<◌, ◌≤◌, ◌++◌, ◌-◌, ◌∷◌, [], ℕ, List, true, Option, option_copied, None, Some, length, IfOk, OnOk, OnErr, replicate, slice_index_or, if◌then◌else◌};
+ghost use Rattle.std.specs.Prelude.{◌≡◌, ◌==◌, ◌<◌, ◌≤◌, ◌++◌, ◌-◌, ◌∷◌, [], ℕ, List, true, Option, option_copied, None, Some, length, IfOk, OnOk, OnErr, replicate, slice_index_or, if◌then◌else◌, false};
 ghost use Rattle.compacket.specs.declared.headers.TheConstants.{MAX_COM_PACKET};
 ghost use Rattle.device_data.specs.ErrorLog.{sized};
 ghost use Rattle.history.specs.Decisions.{is_session_com_id};
@@ -47,7 +47,7 @@ impl Model for Response {
 }
 
 impl Response {
-    ghost use Rattle.std.specs.Prelude.{◌≡◌, ◌≤◌, length, MatchResult};
+    ghost use Rattle.std.specs.Prelude.{◌≡◌, ◌≤◌, length, IfOk, MatchResult};
     ghost use Rattle.compacket.specs.declared.headers.TheConstants.{MAX_COM_PACKET};
 
     pub fn new(bytes: Vec<u8>) -> Response
@@ -55,6 +55,14 @@ impl Response {
         ensures { result ≡ bytes.items }
     {
         Response { bytes }
+    }
+
+    /// The same response once more.
+    fn copy(&self) -> Result<Response, AllocError>
+        ensures { IfOk result (λ copied. copied ≡ self.now) }
+    {
+        let bytes = self.bytes.clone()?;
+        Ok(Response { bytes })
     }
 
     /// The bytes with zeros behind them up to a length, in the vector that they stand in; where memory is refused, the
@@ -103,6 +111,16 @@ fn size_of(response: &[u8]) -> u32
     response.len() as u32
 }
 
+/// The same response once more, where one waits.
+fn copy_waiting(waiting: &Option<Response>) -> Result<Option<Response>, AllocError>
+    ensures { IfOk result (λ copied. copied ≡ waiting.now) }
+{
+    match waiting {
+        Some(response) => Ok(Some(response.copy()?)),
+        None => Ok(None),
+    }
+}
+
 impl Responses {
     /// None waits.
     pub fn new() -> Responses
@@ -111,6 +129,21 @@ impl Responses {
         Responses {
             waiting: [None, None, None, None],
         }
+    }
+
+    /// The same responses once more, in memory of their own.
+    pub fn copy(&self) -> Result<Responses, AllocError>
+        ensures { IfOk result (λ copied. copied.waiting ≡ self.now.waiting) }
+    {
+        let [first, second, third, fourth] = &self.waiting;
+        Ok(Responses {
+            waiting: [
+                copy_waiting(first)?,
+                copy_waiting(second)?,
+                copy_waiting(third)?,
+                copy_waiting(fourth)?,
+            ],
+        })
     }
 
     /// The response that waits on a ComID.
@@ -139,22 +172,20 @@ impl Responses {
         self.waiting = [None, None, None, None];
     }
 
-    /// The data of a receive on a ComID: the response that waits, with zeros behind it; where it is
-    /// longer than the transfer, a header that tells its size, and an empty header where none waits.
+    /// The data of a receive on a ComID where no response waits that has room: a header that tells the size of the longer
+    /// one, and an empty header where none waits.
     pub fn data(&self, alloc: Global, com_id: ComId, room: usize) -> Result<Vec<u8>, AllocError>
+        requires { fits_in room (response_at self.now.waiting com_id) ≡ false }
         ensures { IfOk result (λ v. v.items
             ≡ sized room (received_bytes com_id room (response_at self.now.waiting com_id))) }
     {
         match self.at(com_id) {
             None => sized(alloc, &empty_header(com_id), room),
-            Some(response) => {
-                let bytes = response.as_slice();
-                if bytes.len() <= room {
-                    sized(alloc, bytes, room)
-                } else {
-                    sized(alloc, &short_header(com_id, size_of(bytes)), room)
-                }
-            }
+            Some(response) => sized(
+                alloc,
+                &short_header(com_id, size_of(response.as_slice())),
+                room,
+            ),
         }
     }
 

@@ -132,6 +132,19 @@ impl Tper {
         }
     }
 
+    /// The same once more, in memory of its own.
+    #[inline(always)]
+    pub fn copy(&self) -> Result<Tper, AllocError>
+        ensures { IfOk result (λ copied. copied ≡ self.now) }
+    {
+        Ok(Tper {
+            alloc: self.alloc,
+            store: self.store.copy()?,
+            sessions: self.sessions.copy()?,
+            responses: self.responses.copy()?,
+        })
+    }
+
     /// The rows and the bytes of the shadow MBR in force.
     pub fn in_force(&self) -> View<'_>
         ensures { result ≡ committed_sight self.now.store }

@@ -18,16 +18,15 @@ ghost use Rattle.transactions.specs.declared.change.TransactionError.TheVariants
 ghost use Rattle.transactions.specs.Changes.{IsInside, fault_of_cells, fault_of_change};
 
 use crate::change::{Change, SessionId, TransactionError};
-use crate::log::Pending;
+use crate::log::{Pending, copied};
 use crate::part::{
     begin, byte_log, byte_log_of_others, change_bytes, change_row, row_log, row_log_of_others,
     session_of, undo_admin, undo_locking,
 };
-use crate::undo::copied;
 use crate::view::View;
 use shadow_mbr::Mbr;
 use sp_cells::limits::{MANUFACTURED, MANUFACTURED_INACTIVE};
-use sp_tables::{Cell, Column, Rows, SetError, Sp, Tables, Uid, is_pin, number_at};
+use sp_tables::{Cell, Column, Rows, SetError, Sp, Tables, Uid, copy_cells, is_pin, number_at};
 use std::alloc::{AllocError, Global};
 use std::marker::Model;
 
@@ -69,6 +68,20 @@ impl Store {
             admin: None,
             locking: None,
         }
+    }
+
+    /// The same store once more, with its open transactions, in memory of its own.
+    #[inline(always)]
+    pub fn copy(&self) -> Result<Store, AllocError>
+        ensures { IfOk result (λ copied. copied ≡ self.now) }
+    {
+        Ok(Store {
+            alloc: self.alloc,
+            tables: self.tables.copy()?,
+            mbr: self.mbr.copy()?,
+            admin: copied(&self.admin)?,
+            locking: copied(&self.locking)?,
+        })
     }
 
     /// The session whose transaction is open on the SP.
@@ -270,7 +283,7 @@ impl Store {
             (λ bytes. bytes)) self.old) }
         ensures err { OnErr result (self.new ≡ self.old) }
     {
-        let copies = copied(self.alloc, cells)?;
+        let copies = copy_cells(self.alloc, cells)?;
         match sp {
             Sp::Admin => change_row(&mut self.tables, &mut self.admin, sp, object, copies)?,
             Sp::Locking => change_row(&mut self.tables, &mut self.locking, sp, object, copies)?,
@@ -335,10 +348,9 @@ impl Store {
             ≡ look_up (committed_sight self.now) Admin c_pin_sid pin_column) }
     {
         let view = self.committed();
-        match view.cell(Sp::Admin, Uid::C_PIN_SID, Column::PIN) {
-            Some(pin) => Ok(Some(pin.copy()?)),
-            None => Ok(None),
-        }
+        view.cell(Sp::Admin, Uid::C_PIN_SID, Column::PIN)
+            .map(|pin| pin.copy())
+            .transpose()
     }
 
     /// Makes the cells of the SP those of a new drive, of the Admin SP those of both, and the bytes of the byte

@@ -12,7 +12,7 @@ use crate::sp_rows::entries::{Adds, Numbered, push_family};
 use crate::sp_rows::families::AUTHORITIES;
 use crate::sp_rows::new_rows::{no_text, text};
 use crate::sp_rows::{Row, Run};
-use sp_cells::{Bytes, Cell, Column, RANGES, ResetTypes, Uid};
+use sp_cells::{Bytes, Cell, Column, RANGES, ResetTypes, Uid, copy_cells};
 use std::alloc::{AllocError, Global};
 use std::mem;
 
@@ -61,6 +61,16 @@ impl Row for ConstantRow {
 
     fn swap(&mut self, column: Column, cell: &mut Cell) -> bool {
         swap_among(&mut self.cells, column, cell)
+    }
+
+    fn fill(&mut self, alloc: Global, row: &ConstantRow) -> Result<(), AllocError> {
+        self.cells = copy_cells(alloc, &row.cells)?;
+        Ok(())
+    }
+
+    fn copy(&self, alloc: Global) -> Result<ConstantRow, AllocError> {
+        let cells = copy_cells(alloc, &self.cells)?;
+        Ok(ConstantRow { cells })
     }
 }
 

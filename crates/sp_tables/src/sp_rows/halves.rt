@@ -1,17 +1,19 @@
 //! The tables of one SP: one half of what a drive keeps.
 
-ghost use Rattle.std.specs.Prelude.{◌≡◌, option_copied, is_some, Some, IsTrue};
+ghost use Rattle.std.specs.Prelude.{◌≡◌, option_copied, is_some, IfOk, OnOk, Some, IsTrue};
 ghost use Rattle.std.specs.Bool.{OnTrue, OnFalse};
 ghost use Rattle.sp_tables.specs.Items.{item_at, with_item};
 ghost use Rattle.sp_tables.specs.Halves.{last_items};
 
 use crate::sp_rows::constants::ConstantRow;
+use crate::sp_rows::copies::copy_runs;
 use crate::sp_rows::rows::{
     AceRow, AuthorityRow, CPinRow, DataRemovalRow, LockingInfoRow, LockingRow, MbrControlRow,
     RangeKeyRow, SpRow, TableRow, TperInfoRow,
 };
 use crate::sp_rows::runs::{Run, find_cell, swap_in};
 use sp_cells::{Cell, Column, Uid};
+use std::alloc::{AllocError, Global};
 
 /// The tables that a drive of the profile `Base` has not, each as runs of rows, and the rows whose cells no host sets.
 #[derive(Drop)]
@@ -59,6 +61,29 @@ impl FieldTables {
             || swap_in(&mut self.tables, object, column, cell)
             || swap_in(&mut self.data_removals, object, column, cell)
             || swap_in(&mut self.constants, object, column, cell)
+    }
+
+    /// Tables without rows.
+    fn empty(alloc: Global) -> FieldTables {
+        FieldTables {
+            range_keys: Vec::new(alloc),
+            locking_infos: Vec::new(alloc),
+            tables: Vec::new(alloc),
+            data_removals: Vec::new(alloc),
+            constants: Vec::new(alloc),
+        }
+    }
+
+    /// Makes the rows those of other tables.
+    fn fill(&mut self, alloc: Global, tables: &FieldTables) -> Result<(), AllocError>
+        ensures { OnOk result (field_items self.new ≡ field_items tables.now) }
+    {
+        self.range_keys = copy_runs(alloc, &tables.range_keys)?;
+        self.locking_infos = copy_runs(alloc, &tables.locking_infos)?;
+        self.tables = copy_runs(alloc, &tables.tables)?;
+        self.data_removals = copy_runs(alloc, &tables.data_removals)?;
+        self.constants = copy_runs(alloc, &tables.constants)?;
+        Ok(())
     }
 }
 
@@ -142,5 +167,43 @@ impl SpTables {
             || swap_in(&mut self.mbr_controls, object, column, cell)
             || swap_in(&mut self.tper_infos, object, column, cell)
             || swap_last(&mut self.aces, &mut self.field, object, column, cell)
+    }
+
+    /// Tables without rows.
+    fn empty(alloc: Global) -> SpTables {
+        SpTables {
+            sps: Vec::new(alloc),
+            authorities: Vec::new(alloc),
+            pins: Vec::new(alloc),
+            ranges: Vec::new(alloc),
+            mbr_controls: Vec::new(alloc),
+            tper_infos: Vec::new(alloc),
+            aces: Vec::new(alloc),
+            field: FieldTables::empty(alloc),
+        }
+    }
+
+    /// Makes the rows those of other tables.
+    fn fill(&mut self, alloc: Global, tables: &SpTables) -> Result<(), AllocError>
+        ensures { OnOk result (half_items self.new ≡ half_items tables.now) }
+    {
+        self.sps = copy_runs(alloc, &tables.sps)?;
+        self.authorities = copy_runs(alloc, &tables.authorities)?;
+        self.pins = copy_runs(alloc, &tables.pins)?;
+        self.ranges = copy_runs(alloc, &tables.ranges)?;
+        self.mbr_controls = copy_runs(alloc, &tables.mbr_controls)?;
+        self.tper_infos = copy_runs(alloc, &tables.tper_infos)?;
+        self.aces = copy_runs(alloc, &tables.aces)?;
+        self.field.fill(alloc, &tables.field)?;
+        Ok(())
+    }
+
+    /// The same tables once more.
+    pub fn copy(&self, alloc: Global) -> Result<SpTables, AllocError>
+        ensures { IfOk result (λ copied. half_items copied ≡ half_items self.now) }
+    {
+        let mut copied = SpTables::empty(alloc);
+        copied.fill(alloc, self)?;
+        Ok(copied)
     }
 }

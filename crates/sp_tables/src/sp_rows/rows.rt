@@ -1,12 +1,13 @@
 //! The rows of the tables: for each table of the standard a struct with its columns.
 
-ghost use Rattle.std.specs.Prelude.{◌≡◌, List, [], ◌∷◌, option_copied, is_some, Some};
+ghost use Rattle.std.specs.Prelude.{◌≡◌, List, [], ◌∷◌, option_copied, is_some, IfOk, OnOk, Some};
 ghost use Rattle.std.specs.Bool.{OnTrue, OnFalse};
 ghost use Rattle.sp_cells.specs.declared.names.Column.{Column};
 ghost use Rattle.sp_cells.specs.declared.cells.Cell.{Cell};
 ghost use Rattle.sp_tables.specs.Items.{column_at, with_column};
 
 use sp_cells::{Cell, Column};
+use std::alloc::{AllocError, Global};
 use std::mem;
 
 /// A row of a table, seen as its columns.
@@ -23,6 +24,14 @@ pub trait Row {
         ensures old { OnTrue result (column_at (held self.old) column ≡ Some cell.new) }
         ensures unchanged { OnFalse result (cell.new ≡ cell.old) }
         ensures changed { held self.new ≡ with_column (held self.old) column cell.old };
+
+    /// Makes the cells those of another row.
+    fn fill(&mut self, alloc: Global, row: &Self) -> Result<(), AllocError>
+        ensures { OnOk result (held self.new ≡ held row.now) };
+
+    /// The same row once more.
+    fn copy(&self, alloc: Global) -> Result<Self, AllocError>
+        ensures { IfOk result (λ row. held row ≡ held self.now) };
 }
 
 /// The match of `cell`: which field has the cell of a column.
@@ -44,6 +53,31 @@ macro_rules! swap_of {
         }
         true
     }};
+}
+
+/// The statements of `fill`: each field is the other row's once more.
+macro_rules! fill_of {
+    ($row:ident, $other:ident; $($name:ident: $field:ident),+) => {{
+        $(put(&mut $row.$field, &$other.$field)?;)+
+        Ok(())
+    }};
+}
+
+/// The statements of `copy`: a row of zeros is filled.
+macro_rules! copy_of {
+    ($row:ident, $kind:ident, $alloc:ident; $($name:ident: $field:ident),+) => {{
+        let mut copied = $kind { $($field: Cell::Number(0),)+ };
+        copied.fill($alloc, $row)?;
+        Ok(copied)
+    }};
+}
+
+/// Puts the same cell once more in a place.
+fn put(place: &mut Cell, cell: &Cell) -> Result<(), AllocError>
+    ensures { OnOk result (place.new ≡ cell.now) }
+{
+    *place = cell.copy()?;
+    Ok(())
 }
 
 /// A row of the SP table.
@@ -77,6 +111,14 @@ impl Row for SpRow {
 
     fn swap(&mut self, column: Column, cell: &mut Cell) -> bool {
         sp_columns!(swap_of self, column, cell)
+    }
+
+    fn fill(&mut self, _alloc: Global, row: &SpRow) -> Result<(), AllocError> {
+        sp_columns!(fill_of self, row)
+    }
+
+    fn copy(&self, alloc: Global) -> Result<SpRow, AllocError> {
+        sp_columns!(copy_of self, SpRow, alloc)
     }
 }
 
@@ -122,6 +164,14 @@ impl Row for AuthorityRow {
     fn swap(&mut self, column: Column, cell: &mut Cell) -> bool {
         authority_columns!(swap_of self, column, cell)
     }
+
+    fn fill(&mut self, _alloc: Global, row: &AuthorityRow) -> Result<(), AllocError> {
+        authority_columns!(fill_of self, row)
+    }
+
+    fn copy(&self, alloc: Global) -> Result<AuthorityRow, AllocError> {
+        authority_columns!(copy_of self, AuthorityRow, alloc)
+    }
 }
 
 /// A row of the C_PIN table.
@@ -165,6 +215,14 @@ impl Row for CPinRow {
 
     fn swap(&mut self, column: Column, cell: &mut Cell) -> bool {
         c_pin_columns!(swap_of self, column, cell)
+    }
+
+    fn fill(&mut self, _alloc: Global, row: &CPinRow) -> Result<(), AllocError> {
+        c_pin_columns!(fill_of self, row)
+    }
+
+    fn copy(&self, alloc: Global) -> Result<CPinRow, AllocError> {
+        c_pin_columns!(copy_of self, CPinRow, alloc)
     }
 }
 
@@ -214,6 +272,14 @@ impl Row for LockingRow {
     fn swap(&mut self, column: Column, cell: &mut Cell) -> bool {
         locking_columns!(swap_of self, column, cell)
     }
+
+    fn fill(&mut self, _alloc: Global, row: &LockingRow) -> Result<(), AllocError> {
+        locking_columns!(fill_of self, row)
+    }
+
+    fn copy(&self, alloc: Global) -> Result<LockingRow, AllocError> {
+        locking_columns!(copy_of self, LockingRow, alloc)
+    }
 }
 
 /// The row of the MBRControl table.
@@ -250,6 +316,14 @@ impl Row for MbrControlRow {
     fn swap(&mut self, column: Column, cell: &mut Cell) -> bool {
         mbr_control_columns!(swap_of self, column, cell)
     }
+
+    fn fill(&mut self, _alloc: Global, row: &MbrControlRow) -> Result<(), AllocError> {
+        mbr_control_columns!(fill_of self, row)
+    }
+
+    fn copy(&self, alloc: Global) -> Result<MbrControlRow, AllocError> {
+        mbr_control_columns!(copy_of self, MbrControlRow, alloc)
+    }
 }
 
 /// The row of the TPerInfo table.
@@ -281,6 +355,14 @@ impl Row for TperInfoRow {
 
     fn swap(&mut self, column: Column, cell: &mut Cell) -> bool {
         tper_info_columns!(swap_of self, column, cell)
+    }
+
+    fn fill(&mut self, _alloc: Global, row: &TperInfoRow) -> Result<(), AllocError> {
+        tper_info_columns!(fill_of self, row)
+    }
+
+    fn copy(&self, alloc: Global) -> Result<TperInfoRow, AllocError> {
+        tper_info_columns!(copy_of self, TperInfoRow, alloc)
     }
 }
 
@@ -320,6 +402,14 @@ impl Row for AceRow {
     fn swap(&mut self, column: Column, cell: &mut Cell) -> bool {
         ace_columns!(swap_of self, column, cell)
     }
+
+    fn fill(&mut self, _alloc: Global, row: &AceRow) -> Result<(), AllocError> {
+        ace_columns!(fill_of self, row)
+    }
+
+    fn copy(&self, alloc: Global) -> Result<AceRow, AllocError> {
+        ace_columns!(copy_of self, AceRow, alloc)
+    }
 }
 
 /// The column of the Locking table that tells the key of a range.
@@ -349,6 +439,14 @@ impl Row for RangeKeyRow {
 
     fn swap(&mut self, column: Column, cell: &mut Cell) -> bool {
         range_key_columns!(swap_of self, column, cell)
+    }
+
+    fn fill(&mut self, _alloc: Global, row: &RangeKeyRow) -> Result<(), AllocError> {
+        range_key_columns!(fill_of self, row)
+    }
+
+    fn copy(&self, alloc: Global) -> Result<RangeKeyRow, AllocError> {
+        range_key_columns!(copy_of self, RangeKeyRow, alloc)
     }
 }
 
@@ -400,6 +498,14 @@ impl Row for LockingInfoRow {
     fn swap(&mut self, column: Column, cell: &mut Cell) -> bool {
         locking_info_columns!(swap_of self, column, cell)
     }
+
+    fn fill(&mut self, _alloc: Global, row: &LockingInfoRow) -> Result<(), AllocError> {
+        locking_info_columns!(fill_of self, row)
+    }
+
+    fn copy(&self, alloc: Global) -> Result<LockingInfoRow, AllocError> {
+        locking_info_columns!(copy_of self, LockingInfoRow, alloc)
+    }
 }
 
 /// A row of the Table table, which tells of another table.
@@ -442,6 +548,14 @@ impl Row for TableRow {
     fn swap(&mut self, column: Column, cell: &mut Cell) -> bool {
         table_columns!(swap_of self, column, cell)
     }
+
+    fn fill(&mut self, _alloc: Global, row: &TableRow) -> Result<(), AllocError> {
+        table_columns!(fill_of self, row)
+    }
+
+    fn copy(&self, alloc: Global) -> Result<TableRow, AllocError> {
+        table_columns!(copy_of self, TableRow, alloc)
+    }
 }
 
 /// The row of the DataRemovalMechanism table.
@@ -473,5 +587,13 @@ impl Row for DataRemovalRow {
 
     fn swap(&mut self, column: Column, cell: &mut Cell) -> bool {
         data_removal_columns!(swap_of self, column, cell)
+    }
+
+    fn fill(&mut self, _alloc: Global, row: &DataRemovalRow) -> Result<(), AllocError> {
+        data_removal_columns!(fill_of self, row)
+    }
+
+    fn copy(&self, alloc: Global) -> Result<DataRemovalRow, AllocError> {
+        data_removal_columns!(copy_of self, DataRemovalRow, alloc)
     }
 }

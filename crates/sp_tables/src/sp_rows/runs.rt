@@ -1,6 +1,6 @@
 //! Runs of rows: rows whose names follow one another, so that a row is found by its name alone.
 
-ghost use Rattle.std.specs.Prelude.{◌≡◌, ◌≤◌, ◌<◌, ◌+◌, ◌-◌, List, length, MatchOption, option_copied, is_some, Some, None};
+ghost use Rattle.std.specs.Prelude.{◌≡◌, ◌≤◌, ◌<◌, ◌+◌, ◌-◌, List, length, MatchOption, option_copied, is_some, Some, None, true};
 ghost use Rattle.std.specs.List.{flat_map};
 ghost use Rattle.std.specs.Bool.{OnTrue, OnFalse};
 ghost use Rattle.sp_tables.specs.Items.{item_at, with_item, rows_from};
@@ -46,6 +46,7 @@ impl<R: Row> Run<R> {
     /// Exchanges the cell, where one of the rows has it.
     #[tactic(auto, using(crate::proofs::sp_rows::RunLemmas::placed))]
     fn swap(&mut self, object: Uid, column: Column, cell: &mut Cell) -> bool
+        requires { is_some (item_at (run_items R.held self.old) object column) ≡ true }
         ensures found { result ≡ is_some (item_at (run_items R.held self.old) object column) }
         ensures old { OnTrue result
             (item_at (run_items R.held self.old) object column ≡ Some cell.new) }
@@ -53,10 +54,10 @@ impl<R: Row> Run<R> {
         ensures changed { run_items R.held self.new
             ≡ with_item (run_items R.held self.old) object column cell.old }
     {
-        match self.place(object) {
-            Some(i) => self.rows[i].swap(column, cell),
-            None => false,
-        }
+        let Some(i) = self.place(object) else {
+            unreachable!()
+        };
+        self.rows[i].swap(column, cell)
     }
 }
 

@@ -1,0 +1,7 @@
+use Rattle.std.proofs.Common.{◌≡◌, take}
+use Rattle.std.specs.List.{flat_map}
+use Rattle.sp_tables.specs.Runs.{run_items}
+use Rattle.sp_tables.proofs.sp_rows.copies.copy_runs.Given as goal
+
+abbrev pub invariant-loop-run : goal.invariant-loop-run
+invariant-loop-run g l = flat_map (run_items g.R.Row.held) l.copies.items ≡ flat_map (run_items g.R.Row.held) (take l.run-index l.runs)
