@@ -50,6 +50,28 @@ static void copies(void)
     is("its free", opal_free(&late), OPAL_DONE);
 }
 
+static void clones(void)
+{
+    opal_handle drive = made(), twin = OPAL_NONE, next = OPAL_NONE, port = OPAL_NONE;
+    is("a clone", opal_clone(&twin, &drive), OPAL_DONE);
+    is("a clone where a drive is", opal_clone(&twin, &drive), OPAL_IN_USE);
+    is("a clone of a drive at itself", opal_clone(&drive, &drive), OPAL_IN_USE);
+    is("a clone of nothing", opal_clone(&next, &port), OPAL_NO_HANDLE);
+    is("a clone of a null pointer", opal_clone(&next, NULL), OPAL_NULL);
+    is("a clone at a null pointer", opal_clone(NULL, &drive), OPAL_NULL);
+    is("a port", opal_port_new(&port, &config), OPAL_DONE);
+    is("a clone of a port", opal_clone(&next, &port), OPAL_DONE);
+    is("its free", opal_free(&port), OPAL_DONE);
+    is("a drive's call of the clone of a port", reads(&next), OPAL_OTHER_KIND);
+    is("its free", opal_free(&next), OPAL_DONE);
+    is("a free of what was cloned", opal_free(&drive), OPAL_DONE);
+    is("a read of the clone", reads(&twin), OPAL_DONE);
+    is("a clone of a drive that was freed", opal_clone(&next, &drive), OPAL_NO_HANDLE);
+    is("a clone of the clone", opal_clone(&next, &twin), OPAL_DONE);
+    is("its free", opal_free(&next), OPAL_DONE);
+    is("a free of the clone", opal_free(&twin), OPAL_DONE);
+}
+
 static void bytes(void)
 {
     static const uint64_t forged[][2] = { { 0, 0 }, { 1, 0 }, { 0x6f70616c00000001, 99999 }, { 0x6f70616c706f7274, 8 },
@@ -121,6 +143,6 @@ int main(void)
     if (opal_command_fis(OPAL_READ_DMA, 5, 1, 0, fis, sizeof fis).code != OPAL_DONE || opal_free(NULL) != OPAL_NULL)
         return 2;
     memset(sector, 7, sizeof sector);
-    copies(), bytes(), moves(), threads();
+    copies(), clones(), bytes(), moves(), threads();
     return wrong;
 }

@@ -1,5 +1,5 @@
 /* How much stack the calls of the library take: each is made in a thread with 64 KiB of stack, which is painted before, and what
-   is painted no more is counted. A call may take 16 KiB, as the header says. A page below the stack can't be touched. */
+   is painted no more is counted. A call may take 16 KiB, a copy 40, as the header says. A page below the stack can't be touched. */
 #include "opalport.h"
 
 #include <pthread.h>
@@ -8,11 +8,11 @@
 #include <string.h>
 #include <sys/mman.h>
 
-enum { STACK = 64 << 10, PAGE = 4096, PAINT = 0xa5, MOST = 16 << 10, BASE = 0x100000 };
+enum { STACK = 64 << 10, PAGE = 4096, PAINT = 0xa5, MOST = 16 << 10, MOST_OF_A_COPY = 40 << 10, BASE = 0x100000 };
 enum { PxCLB = 0x100, PxFB = 0x108, PxCMD = 0x118, PxSERR = 0x130, PxCI = 0x138 };
 
 static const opal_range locked = { 500, 10, 1, 1, 1, 1, 1 };
-static opal_handle handle = OPAL_NONE;
+static opal_handle handle = OPAL_NONE, twin = OPAL_NONE;
 static opal_config config = OPAL_CONFIG_INIT;
 static uint8_t fis[OPAL_FIS_BYTES], block[OPAL_SECTOR_BYTES], many[60000], memory[0x4000];
 static char text[1 << 20];
@@ -27,6 +27,8 @@ static const uint8_t start_session[] = {
 
 static void *nothing(void *it) { return it; }
 static void *drive_new(void *it) { code = opal_drive_new(&handle, &config); return it; }
+static void *drive_clone(void *it) { code = opal_clone(&twin, &handle); return it; }
+static void *frees_clone(void *it) { code = opal_free(&twin); return it; }
 static void *port_new(void *it) { code = opal_port_new(&handle, &config); return it; }
 static void *hba_new(void *it) { code = opal_hba_new(&handle, &config); return it; }
 static void *frees(void *it) { code = opal_free(&handle); return it; }
@@ -135,19 +137,19 @@ static size_t taken(void *(*call)(void *))
 static int wrong;
 static size_t most, least;
 
-static void run(const char *what, void *(*call)(void *))
+static void run(const char *what, void *(*call)(void *), size_t may_take)
 {
     code = OPAL_DONE;
     size_t bytes = taken(call);
     bytes -= bytes < least ? bytes : least;
-    most = bytes > most ? bytes : most;
-    if (code != OPAL_DONE || bytes > MOST) {
+    most = bytes > most && may_take == MOST ? bytes : most;
+    if (code != OPAL_DONE || bytes > may_take) {
         fprintf(stderr, "stack: %s: %s, %zu bytes\n", what, opal_error_text(code), bytes);
         wrong = 1;
     }
 }
 
-#define RUN(call) run(#call, call)
+#define RUN(call) run(#call, call, MOST)
 
 int main(void)
 {
@@ -156,7 +158,7 @@ int main(void)
     config.ranges = &locked, config.range_count = 1;
     RUN(version), RUN(tokens), RUN(named);
     RUN(drive_new), RUN(about), RUN(media);
-    RUN(frame), RUN(opened), RUN(send_fis), RUN(send_block), RUN(receive_fis), RUN(accepts), RUN(data);
+    RUN(frame), RUN(opened), RUN(send_fis), RUN(send_block), run("drive_clone", drive_clone, MOST_OF_A_COPY), RUN(frees_clone), RUN(receive_fis), RUN(accepts), RUN(data);
     RUN(read_fis), RUN(decoded), RUN(payload), RUN(accepts), RUN(expects), RUN(completes), RUN(accepts_into), RUN(completes_into);
     RUN(failure), RUN(reset);
     RUN(read_dma_fis), RUN(accepts), RUN(denial), RUN(denied), RUN(remedy);
@@ -167,6 +169,6 @@ int main(void)
     RUN(hba_new);
     RUN(hba_start), RUN(hba_turn), RUN(hba_issue), RUN(hba_within), RUN(hba_read), RUN(hba_interrupt), RUN(hba_denial), RUN(hba_denied);
     RUN(hba_cycle), RUN(frees);
-    fprintf(stderr, "stack: at most %zu bytes in any call\n", most);
+    fprintf(stderr, "stack: at most %zu bytes in any call that copies nothing\n", most);
     return wrong;
 }

@@ -14,7 +14,8 @@
 
    Each call gives a code: OPAL_DONE, or why it was refused, and then nothing was done. opal_error_text tells it in
    words. A call never ends the process and never prints. It waits for no other call, but for the moment in which that looks up
-   its handle. It takes memory from malloc, and up to 16 KiB of stack. A text that is given has a length, and no zero behind it.
+   its handle. It takes memory from malloc, and up to 16 KiB of stack, opal_clone up to 40. A text that is given has a length, and
+   no zero behind it.
 
    A handle is a number. The library looks it up in its table, and follows no address in it. A number is never given twice. So a
    handle may be copied and moved in memory; each copy leads to the same object, and to none once that is freed by one of them.
@@ -419,6 +420,7 @@ opal_count opal_raw_remedy(opal_raw_object *object, size_t place, uint8_t *into,
 opal_code opal_raw_drive_new(opal_raw_object *object, opal_raw_size size, const uint8_t *msid, size_t msid_length,
                              const uint8_t *serial, size_t serial_length, const uint8_t *model, size_t model_length,
                              const uint8_t *psid, size_t psid_length, const opal_range *ranges, size_t range_count);
+opal_code opal_raw_clone(opal_raw_object *object, opal_raw_object *from);
 opal_code opal_raw_free(opal_raw_object *object);
 opal_answer opal_raw_drive_accept(opal_raw_object *object, const uint8_t *fis, size_t fis_length, const uint8_t *payload,
                                   size_t payload_length);
@@ -583,6 +585,31 @@ typedef opal_code opal_raw_make(opal_raw_object *object, opal_raw_size size, con
                                 const uint8_t *serial, size_t serial_length, const uint8_t *model, size_t model_length,
                                 const uint8_t *psid, size_t psid_length, const opal_range *ranges, size_t range_count);
 
+/* Whether a handle has nothing. */
+static inline bool opal_raw_is_free(const opal_handle *handle)
+{
+    opal_raw_object object;
+    opal_code fault = opal_raw_lend(handle, &object);
+    if (fault == OPAL_DONE)
+        opal_raw_give_back(handle, &object);
+    return fault == OPAL_NOT_OPEN;
+}
+
+/* Gives a new object, where it was made, to a handle with nothing. */
+static inline opal_code opal_raw_made(opal_raw_call *call, opal_handle *handle, opal_code fault)
+{
+    if (fault != OPAL_DONE)
+        return fault;
+    fault = opal_raw_number(&call->handle);
+    if (fault != OPAL_DONE) {
+        opal_raw_free(&call->object);
+        return fault;
+    }
+    opal_raw_end(call);
+    *handle = call->handle;
+    return OPAL_DONE;
+}
+
 /* Makes it as it is asked for, where nothing is wrong with what was given. */
 static inline opal_code opal_raw_new(opal_raw_make *make, opal_handle *handle, const opal_config *config)
 {
@@ -595,24 +622,12 @@ static inline opal_code opal_raw_new(opal_raw_make *make, opal_handle *handle, c
     if (config->has_datastore != 0) /* the largest number stands for none that is asked for, and no drive has the one below it */
         size.datastore = config->datastore == UINT64_MAX ? UINT64_MAX - 1 : config->datastore;
     opal_raw_call call = { { 0, NULL }, OPAL_NONE };
-    fault = opal_raw_lend(handle, &call.object);
-    if (fault == OPAL_DONE)
-        opal_raw_give_back(handle, &call.object);
-    if (fault != OPAL_NOT_OPEN)
+    if (!opal_raw_is_free(handle))
         return OPAL_IN_USE;
     fault = make(&call.object, size, opal_raw_at(config->msid), config->msid_length, opal_raw_at(config->serial),
                  config->serial_length, opal_raw_at(config->model), config->model_length, opal_raw_at(config->psid),
                  config->psid_length, (const opal_range *)(const void *)opal_raw_at(config->ranges), config->range_count);
-    if (fault != OPAL_DONE)
-        return fault;
-    fault = opal_raw_number(&call.handle);
-    if (fault != OPAL_DONE) {
-        opal_raw_free(&call.object);
-        return fault;
-    }
-    opal_raw_end(&call);
-    *handle = call.handle;
-    return OPAL_DONE;
+    return opal_raw_made(&call, handle, fault);
 }
 
 /* The version of the library, a byte each of major, minor and patch: OPAL_VERSION of the header that it was made with. A
@@ -650,6 +665,29 @@ static inline opal_code opal_free(opal_handle *handle)
     opal_raw_end(&call);
     handle->mark = handle->place = 0;
     return told;
+}
+
+/* Makes what another handle has once more, at a handle with nothing: a drive, a port or a controller. Rows, sessions, open
+   transactions, held commands, waiting responses, registers and the bytes of the media are the same, in memory of their own. Both
+   answer the same from then on, and what is done with one changes nothing of the other. The copy goes on with the numbers of acts and
+   steps; it has no data of a last answer. Refused: OPAL_NULL, OPAL_MISALIGNED, OPAL_IN_USE; of the other handle OPAL_NOT_OPEN,
+   OPAL_BUSY; OPAL_OUT_OF_MEMORY. */
+OPAL_MUST_USE static inline opal_code opal_clone(opal_handle *handle, const opal_handle *from)
+{
+    opal_code fault = opal_raw_of(handle);
+    if (fault == OPAL_DONE)
+        fault = opal_raw_of(from);
+    if (fault != OPAL_DONE)
+        return fault;
+    if (!opal_raw_is_free(handle))
+        return OPAL_IN_USE;
+    opal_raw_call call = { { 0, NULL }, OPAL_NONE }, other;
+    fault = opal_raw_begin(&other, from, OPAL_DONE);
+    if (fault != OPAL_DONE)
+        return fault;
+    fault = opal_raw_clone(&call.object, &other.object);
+    opal_raw_end(&other);
+    return opal_raw_made(&call, handle, fault);
 }
 
 /* What a handle has: its kind, and of the drive the profile and the sectors. Refused: OPAL_NULL, OPAL_MISALIGNED,

@@ -41,10 +41,11 @@ class OnADrive(unittest.TestCase):
             call(*words)
         self.assertEqual(it.exception.code, code)
 
-    def call(self, tsn, hsn, tokens):
+    def call(self, tsn, hsn, tokens, drive=None):
+        drive = drive or self.drive
         block = frame(COM_ID, tsn, hsn, tokens).ljust(SECTOR, b"\0")
-        self.assertEqual(self.drive.accept(trusted_fis(True, SECURITY, COM_ID, 1), block).status, 0x50)
-        answer = self.drive.accept(trusted_fis(False, SECURITY, COM_ID, 1))
+        self.assertEqual(drive.accept(trusted_fis(True, SECURITY, COM_ID, 1), block).status, 0x50)
+        answer = drive.accept(trusted_fis(False, SECURITY, COM_ID, 1))
         return tokens_text(opened(answer.data).payload)
 
     def test_a_locked_read_is_denied_with_its_reason(self):
@@ -223,10 +224,30 @@ class OnADrive(unittest.TestCase):
         with self.assertRaises(TypeError):
             self.drive.accept_into(read(5), bytes(512))
 
-    def test_a_drive_is_not_copied(self):
-        for call in (copy.copy, copy.deepcopy, pickle.dumps):
-            with self.assertRaises(TypeError):
-                call(self.drive)
+    def test_a_copy_goes_its_own_way(self):
+        self.call(0, 0, START)
+        self.drive.accept(command_fis(Command.WRITE_DMA, 5), b"\x05" * SECTOR)
+        self.assertTrue(self.drive.accept(command_fis(Command.READ_QUEUED, 5, 1, 3)).held)
+        for again in (Drive.clone, copy.copy, copy.deepcopy):
+            with again(self.drive) as copied:
+                self.assertEqual(copied.complete(3).data, b"\x05" * SECTOR)
+                self.assertEqual(copied.accept(read(95, 6)).denied, True)
+                self.assertEqual(copied.denial(7), "6 7 deny read 95+6 range 1 ReadLocked")
+                self.assertEqual(self.call(0x1000, 7, UNLOCK, copied), "reply [] 0 0 0")
+                self.assertEqual(copied.accept(read(95, 6)).data, bytes(6 * SECTOR))
+                copied.accept(command_fis(Command.WRITE_DMA, 5, 2), b"\x06" * (2 * SECTOR))
+                self.assertEqual(copied.media(5), b"\x06" * SECTOR)
+        self.assertEqual(self.drive.complete(3).data, b"\x05" * SECTOR)
+        self.assertEqual((self.drive.media(5), self.drive.media(6)), (b"\x05" * SECTOR, bytes(SECTOR)))
+        self.assertEqual(self.drive.accept(read(95, 6)).denied, True)
+        self.assertEqual(self.drive.denial(7), "6 7 deny read 95+6 range 1 ReadLocked")
+        self.drive.close()
+        with self.assertRaises(OpalError):
+            self.drive.clone()
+
+    def test_a_drive_is_not_pickled(self):
+        with self.assertRaises(TypeError):
+            pickle.dumps(self.drive)
         self.assertIsNone(self.drive.failure())
 
     def test_an_error_says_what_to_do_and_passes_between_processes(self):

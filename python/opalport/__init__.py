@@ -418,6 +418,7 @@ _CALLS = {
     "media": (_Count, [*_HANDLE, ctypes.c_uint64, *_BYTES]),
     "remedy": (_Count, [*_HANDLE, ctypes.c_size_t, *_BYTES]),
     "drive_new": (ctypes.c_uint32, _MAKE),
+    "clone": (ctypes.c_uint32, [*_HANDLE, *_HANDLE]),
     "free": (ctypes.c_uint32, _HANDLE),
     "drive_accept": (_Answer, [*_HANDLE, *_BYTES, *_BYTES]),
     "drive_complete": (_Answer, [*_HANDLE, ctypes.c_uint8, *_BYTES]),
@@ -606,8 +607,7 @@ class _Object:
     def __init__(self, *, sectors: Optional[int] = None, shadow: Optional[int] = None, msid: Bytes = MSID, ranges: Sequence[Range] = (),
                  profile: str = "base", serial: str = "", model: str = "", psid: Bytes = b"",
                  datastore: Optional[int] = None, seed: int = 0) -> None:
-        self._words, self._lock = _Handle(), threading.RLock()
-        self._handle = ctypes.c_void_p(ctypes.addressof(self._words))
+        self._hold_nothing()
         rows = (_Range * len(ranges))(*(_row(it) for it in ranges))
         store = ANY_SIZE if datastore is None else min(_within(datastore, ANY_SIZE), ANY_SIZE - 1)
         if profile not in PROFILES:
@@ -618,6 +618,10 @@ class _Object:
         texts = _bytes(serial.encode("utf-8")), _bytes(model.encode("utf-8"))
         make = getattr(_LIBRARY, self._make)
         _check(make(self._handle, size, *_bytes(msid), *texts[0], *texts[1], *_bytes(psid), rows, len(ranges)))
+
+    def _hold_nothing(self) -> None:
+        self._words, self._lock = _Handle(), threading.RLock()
+        self._handle = ctypes.c_void_p(ctypes.addressof(self._words))
 
     def close(self) -> None:
         """Frees the object, if that was not done."""
@@ -636,10 +640,25 @@ class _Object:
         if getattr(self, "_lock", None) is not None:
             self.close()
 
-    def _never_copied(self, *_: Any) -> Any:
-        raise TypeError(f"a {type(self).__name__} has one handle, which is freed once: it is not copied and not pickled")
+    def clone(self: _Self) -> _Self:
+        """The same once more, in memory of its own: both answer the same from then on, and what is done with one changes nothing
+        of the other. The copy goes on with the numbers of acts and steps. `copy.copy` and `copy.deepcopy` do this, too."""
+        copied = type(self).__new__(type(self))
+        copied._hold_nothing()
+        with self._lock:
+            _check(_LIBRARY.clone(copied._handle, self._handle))
+        return copied
 
-    __copy__ = __deepcopy__ = __reduce__ = __reduce_ex__ = _never_copied
+    def __copy__(self: _Self) -> _Self:
+        return self.clone()
+
+    def __deepcopy__(self: _Self, memo: Any) -> _Self:
+        return self.clone()
+
+    def _never_pickled(self, *_: Any) -> Any:
+        raise TypeError(f"a {type(self).__name__} has a handle of this process: it is not pickled")
+
+    __reduce__ = __reduce_ex__ = _never_pickled
 
     def _about(self) -> Any:
         with self._lock:

@@ -2,7 +2,7 @@
 -- handle keeps its object.
 use Rattle.std.specs.Prelude.{◌≡◌, ◌≢◌, ℕ, List, map, Option, Some, None}
 use Rattle.library_calls.specs.declared.byte_calls.error.CallError.{CallError}
-use Rattle.library_calls.specs.declared.byte_calls.error.CallError.TheVariants.{NotOpen, OtherKind, InUse}
+use Rattle.library_calls.specs.declared.byte_calls.error.CallError.TheVariants.{NotOpen, OtherKind, InUse, OutOfMemory}
 use Rattle.opalport_c.specs.declared.answer.Answer.{Answer}
 use Rattle.library_calls.specs.declared.byte_calls.count.Count.{Count}
 use Rattle.opalport_c.specs.declared.failed.Failed.{Failed}
@@ -10,14 +10,15 @@ use Rattle.opalport_c.specs.declared.asked.RangeCells.{RangeCells}
 use Rattle.opalport_c.specs.declared.asked.Size.{Size}
 use Rattle.opalport_c.specs.declared.drive_desk.DriveDesk.{DriveDesk}
 use Rattle.opalport_c.specs.declared.object.Object.{Object}
-use Rattle.opalport_c.specs.declared.object.Object.TheVariants.{Drive}
+use Rattle.opalport_c.specs.declared.object.Object.TheVariants.{Drive, Port, Hba}
 use Rattle.sp_cells.specs.Config.{Config}
+use Rattle.port_history.specs.Requests.{no_bytes}
 use Rattle.opalport_c.specs.Answers.{refused_answer}
 use Rattle.library_calls.specs.Counts.{refused_count}
 use Rattle.opalport_c.specs.Asked.{CanBe, ConfigAsked, IsMakingFault, StartsAs, row_asked}
 use Rattle.library_calls.specs.Copies.{IsCopied, IsWrittenOut}
 use Rattle.opalport_c.specs.Denials.{denial_at}
-use Rattle.opalport_c.specs.Desks.{IsTakenAs, IsFinishedAs, IsResetAs, IsNewDesk, payload_count, expected_count, last_bytes, laid_data}
+use Rattle.opalport_c.specs.Desks.{IsTakenAs, IsFinishedAs, IsResetAs, IsNewDesk, IsCopyOf, payload_count, expected_count, last_bytes, laid_data}
 use Rattle.opalport_c.specs.Failures.{refused_failure, failure_numbers}
 use Rattle.library_calls.specs.Refusals.{done_code, code_of_call}
 
@@ -107,3 +108,25 @@ pub record MakesDrive (had has : Option Object) (size : Size) (msid serial model
   pub can : code ≡ done_code → CanBe size msid serial model psid cells
   pub why : had ≡ None → code ≢ done_code → (error : CallError) × (code ≡ code_of_call error)
       × IsMakingFault size msid serial model psid cells error
+
+-- What is there once more: a drive, a port with the same steps behind it, a controller.
+abbrev pub CopiesObject : Object → Object → Type 0
+CopiesObject (Drive desk) (Drive copied) = IsCopyOf desk copied
+CopiesObject (Port desk) (Port copied) = (copied.port ≡ desk.port) × (copied.last ≡ no_bytes)
+CopiesObject (Hba desk) (Hba copied) = (copied.hba ≡ desk.hba) × (copied.denied ≡ desk.denied)
+CopiesObject _ _ = ⊥
+
+-- Why what one handle has is not copied to another: that has something, or the first has nothing.
+abbrev pub IsCopyFault : Option Object → Option Object → CallError → Type 0
+IsCopyFault (Some there) from error = error ≡ InUse
+IsCopyFault None None error = error ≡ NotOpen
+IsCopyFault None (Some object) error = error ≡ OutOfMemory
+
+-- A handle with nothing is given what another one has once more, or nothing was done. The other one is as before.
+pub record Copies (had has from after : Option Object) (code : ℕ) : Type 0 where
+  pub other : after ≡ from
+  pub copied : code ≡ done_code → (object copied : Object) × (had ≡ None) × (from ≡ Some object)
+      × (has ≡ Some copied) × CopiesObject object copied
+  pub refused : code ≢ done_code → has ≡ had
+  pub why : code ≢ done_code
+      → (error : CallError) × (code ≡ code_of_call error) × IsCopyFault had from error

@@ -105,6 +105,14 @@ pub record IsNewDesk (desk : DriveDesk) : Type 0 where
   pub denied : desk.answer.denied ≡ None
   pub acts : desk.acts ≡ 0
 
+-- The same drive once more: it has done as many acts, and answered nothing since it is there.
+pub record IsCopyOf (desk copied : DriveDesk) : Type 0 where
+  pub drive : copied.drive ≡ desk.drive
+  pub done : copied.done ≡ None
+  pub bytes : copied.answer.bytes.items ≡ []
+  pub denied : copied.answer.denied ≡ None
+  pub acts : copied.acts ≡ desk.acts
+
 -- Nothing was done: where something is wrong all is as before, and where memory was refused all but the data of the last
 -- answer, which have made room.
 pub record IsUndone (old new : DriveDesk) : Type 0 where

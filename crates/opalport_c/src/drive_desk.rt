@@ -29,8 +29,8 @@ pub struct DriveDesk {
 }
 
 impl DriveDesk {
-    ghost use Rattle.std.specs.Prelude.{◌≡◌, List, [], OnOk, OnErr, IfOk, Some, None, MatchResult};
-    ghost use Rattle.opalport_c.specs.Desks.{numbers_at, last_bytes, command_fault, completion_fault, payload_count, expected_count, TakesCommand, CompletesHeld, IsFirstFault, IsRefusedAs, IsTakenAs, IsFinishedAs, IsResetAs, IsNewDesk, laid_data};
+    ghost use Rattle.std.specs.Prelude.{◌≡◌, List, [], OnOk, OnErr, IfOk, IfErr, Some, None, MatchResult};
+    ghost use Rattle.opalport_c.specs.Desks.{numbers_at, last_bytes, command_fault, completion_fault, payload_count, expected_count, TakesCommand, CompletesHeld, IsFirstFault, IsRefusedAs, IsTakenAs, IsFinishedAs, IsResetAs, IsNewDesk, IsCopyOf, laid_data};
     ghost use Rattle.library_calls.specs.Copies.{IsCopied};
     ghost use Rattle.opalport_c.specs.Failures.{failure_numbers};
     ghost use Rattle.library_calls.specs.declared.byte_calls.error.CallError.TheVariants.{OutOfMemory};
@@ -47,6 +47,22 @@ impl DriveDesk {
             acts: 0,
             answered: 0,
         }
+    }
+
+    /// The same drive once more, in memory of its own, which has answered nothing yet.
+    ///
+    /// # Errors
+    ///
+    /// Want of memory.
+    pub fn copy(&self, alloc: Global) -> Result<DriveDesk, CallError>
+        ensures copied { IfOk result (λ desk. IsCopyOf self.now desk) }
+        ensures why { IfErr result (λ e. e ≡ OutOfMemory) }
+    {
+        let drive = self.drive.copy()?;
+        Ok(DriveDesk {
+            acts: self.acts,
+            ..DriveDesk::new(alloc, drive)
+        })
     }
 
     /// Lets the data of the last answer go: the drive puts those of the next one in their place.

@@ -6,6 +6,7 @@ mod about;
 mod answer;
 mod asked;
 mod bytes;
+mod copies;
 mod denials;
 mod denied;
 mod drive_desk;

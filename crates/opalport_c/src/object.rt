@@ -29,6 +29,7 @@ pub enum Object {
 
 impl Object {
     /// In a box of its own.
+    #[inline(always)]
     pub(crate) fn boxed(self, alloc: Global) -> Result<Box<Object>, CallError>
         ensures value { IfOk result (λ object. object.value ≡ self) }
         ensures memory { IfErr result (λ e. e ≡ OutOfMemory) }

@@ -289,6 +289,8 @@ extern "C" {
         ranges: *const RangeCells,
         range_count: usize,
     ) -> u32;
+    /// `opal_clone` of the header.
+    pub fn opal_raw_clone(handle: *mut Handle, from: *mut Handle) -> u32;
     /// `opal_free` of the header.
     pub fn opal_raw_free(handle: *mut Handle) -> u32;
     /// `opal_drive_accept` of the header.

@@ -58,6 +58,11 @@ impl Hba {
         Object::new(raw::opal_raw_hba_new, config).map(|object| Hba { object })
     }
 
+    /// The same once more, in memory of its own, as [`Drive::try_clone`](crate::Drive::try_clone).
+    pub fn try_clone(&mut self) -> Result<Hba, Error> {
+        self.object.try_clone().map(|object| Hba { object })
+    }
+
     /// The 32 bits at an offset of the registers: the generic ones from 0h, the port's from 100h; 0 where no register is.
     pub fn read(&mut self, offset: u32) -> Result<u32, Error> {
         // SAFETY: the handle is this controller's own.

@@ -122,6 +122,11 @@ impl Port {
         Object::new(raw::opal_raw_port_new, config).map(|object| Port { object })
     }
 
+    /// The same once more, in memory of its own, as [`Drive::try_clone`](crate::Drive::try_clone).
+    pub fn try_clone(&mut self) -> Result<Port, Error> {
+        self.object.try_clone().map(|object| Port { object })
+    }
+
     /// A client puts a request in the slot of a tag.
     pub fn put(&mut self, client: u32, tag: u8, request: &Request<'_>) -> Result<usize, Error> {
         let (asked, bytes) = asked(request);

@@ -44,6 +44,24 @@ fn call(drive: &mut Drive, tsn: u32, hsn: u32, tokens: &str) -> String {
 }
 
 #[test]
+fn a_copy_goes_its_own_way() {
+    let mut drive = locked();
+    call(&mut drive, 0, 0, START);
+    assert!(give(&mut drive, Command::ReadQueued { lba: 5, count: 1, tag: 3 }, &[]).held);
+    let mut copied = drive.try_clone().unwrap();
+    assert_eq!(copied.complete(3, &[]).unwrap().data, [0; 512]);
+    assert_eq!(call(&mut copied, 0x1000, 7, UNLOCK), "reply [] 0 0 0");
+    assert_eq!(give(&mut copied, Command::ReadDma { lba: 95, count: 6 }, &[]).status, 0x50);
+    assert_eq!(give(&mut copied, Command::WriteDma { lba: 5, count: 1 }, &[6; 512]).status, 0x50);
+    assert_eq!(drive.complete(3, &[]).unwrap().data, [0; 512]);
+    assert_eq!(drive.media(5).unwrap(), [0; 512]);
+    assert!(give(&mut drive, Command::ReadDma { lba: 95, count: 6 }, &[]).denied);
+    assert_eq!(drive.denial(7).unwrap(), "5 7 deny read 95+6 range 1 ReadLocked");
+    drop(drive);
+    assert_eq!(copied.media(5).unwrap(), [6; 512]);
+}
+
+#[test]
 fn a_call_is_written_by_name() {
     assert_eq!(call_named("set 1 Locking_Range1 ReadLocked=0 WriteLocked=0").unwrap(), bytes(UNLOCK));
     assert_eq!(call_named("end 1").unwrap(), [0xfa]);

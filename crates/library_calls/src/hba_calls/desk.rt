@@ -1,12 +1,13 @@
 //! A controller, with what denied the command of its last turn.
 
-use crate::byte_calls::{Count, DONE, copy_out, copy_text};
+use crate::byte_calls::{CallError, Count, DONE, copy_out, copy_text};
 use crate::denied::Denied;
 use crate::hba_calls::over::{turn_over, turn_within};
 use crate::hba_calls::regions::Region;
 use crate::hba_calls::worked::{Worked, worked_tag};
 use audit::{AuditLine, line_bytes};
 use hba::{Hba, Turned};
+use port::copy_line;
 use std::alloc::{AllocError, Global};
 
 /// A controller that a caller from outside works on, with what denied the command of its last turn.
@@ -18,7 +19,8 @@ pub struct HbaDesk {
 }
 
 impl HbaDesk {
-    ghost use Rattle.std.specs.Prelude.{◌≡◌, None};
+    ghost use Rattle.std.specs.Prelude.{◌≡◌, None, IfOk, IfErr};
+    ghost use Rattle.library_calls.specs.declared.byte_calls.error.CallError.TheVariants.{OutOfMemory};
     ghost use Rattle.library_calls.specs.Copies.{IsWrittenOut};
     ghost use Rattle.library_calls.specs.Counts.{given_count};
     ghost use Rattle.library_calls.specs.Denied.{line_numbers};
@@ -34,6 +36,24 @@ impl HbaDesk {
         ensures denied { result.denied ≡ None }
     {
         HbaDesk { hba, denied: None }
+    }
+
+    /// The same controller once more, in memory of its own, with what denied the command of its last turn.
+    ///
+    /// # Errors
+    ///
+    /// `OutOfMemory`.
+    pub fn copy(&self) -> Result<HbaDesk, CallError>
+        ensures copied { IfOk result (λ copied. (copied.hba ≡ self.now.hba)
+            × (copied.denied ≡ self.now.denied)) }
+        ensures why { IfErr result (λ e. e ≡ OutOfMemory) }
+    {
+        let hba = self.hba.copy()?;
+        let denied = match &self.denied {
+            Some(line) => Some(copy_line(line)?),
+            None => None,
+        };
+        Ok(HbaDesk { hba, denied })
     }
 
     /// The word that the host reads at an offset: 0 where no register stands.

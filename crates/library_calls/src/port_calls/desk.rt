@@ -36,7 +36,8 @@ fn kind_asked(number: u32) -> Option<ResetKind>
 }
 
 impl PortDesk {
-    ghost use Rattle.std.specs.Prelude.{◌≡◌, ℕ, List};
+    ghost use Rattle.std.specs.Prelude.{◌≡◌, ℕ, List, IfOk, IfErr};
+    ghost use Rattle.library_calls.specs.declared.byte_calls.error.CallError.TheVariants.{OutOfMemory};
     ghost use Rattle.library_calls.specs.Copies.{IsCopied, IsWrittenOut};
     ghost use Rattle.history.specs.Opening.{Origin};
     ghost use Rattle.port.specs.Live.{line_kept};
@@ -57,6 +58,20 @@ impl PortDesk {
             port,
             last: Answer::nothing(),
         }
+    }
+
+    /// The same port once more, in memory of its own, of which nothing was taken yet.
+    ///
+    /// # Errors
+    ///
+    /// `OutOfMemory`.
+    pub fn copy(&self) -> Result<PortDesk, CallError>
+        ensures port { IfOk result (λ copied. copied.port ≡ self.now.port) }
+        ensures last { IfOk result (λ copied. copied.last ≡ no_bytes) }
+        ensures why { IfErr result (λ e. e ≡ OutOfMemory) }
+    {
+        let port = self.port.copy()?;
+        Ok(PortDesk::new(port))
     }
 
     /// A client puts a request in the slot of a tag.
