@@ -265,7 +265,6 @@ impl DriveConfig {
     }
 
     /// The same configuration once more. It takes no memory of its own.
-    #[inline(always)]
     pub fn copy(&self) -> Result<DriveConfig, AllocError>
         ensures { IfOk result (λ c. c ≡ self.now) }
     {

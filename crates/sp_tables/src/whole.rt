@@ -47,8 +47,9 @@ impl Model for Tables {
 }
 
 impl Tables {
-    /// The tables of a new drive.
+    /// The tables of a new drive. It is a call of its own for the stack that it takes.
     #[tactic(auto, using(crate::proofs::ContentLemmas::new_tables))]
+    #[inline(never)]
     pub fn factory(alloc: Global, config: &DriveConfig) -> Result<Tables, AllocError>
         ensures { IfOk result (λ t. t ≡ factory_contents config.now) }
     {
