@@ -2,7 +2,7 @@
 -- the drive before it is the one that forgot its last answer.
 use mathlib.Core.Bool.{true≢false}
 use Rattle.std.specs.Prelude.{is_some}
-use Rattle.std.proofs.Common.{◌≡◌, ◌==◌, ℕ, ◌+◌, ◌%◌, ◌^◌, false, List, ◌∷◌, Option, None, Some, refl, sym, ap, subst, ◌∙◌}
+use Rattle.std.proofs.Common.{◌≡◌, ◌==◌, ℕ, ◌+◌, ◌%◌, ◌^◌, true, false, List, ◌∷◌, Option, None, Some, refl, sym, ap, subst, ◌∙◌}
 use Rattle.library_calls.specs.Refusals.{code_of_call}
 use Rattle.library_calls.specs.declared.byte_calls.error.CallError.{CallError}
 use Rattle.library_calls.specs.declared.byte_calls.error.CallError.TheVariants.{OutOfMemory, NotOpen, OtherKind, Null, Length, Tag, Number, NotHeld, Room, InUse, NoRange, Overlap, Beyond, Malformed, Sectors, Shadow, Msid, Profile, Serial, Model, Psid, Datastore, RangeTwice, VersionDiffers, Shared, Misaligned, Busy, Seed}
@@ -15,8 +15,10 @@ use Rattle.drive.specs.State.{DriveState, Agrees}
 use Rattle.drive.specs.Answers.{IsAnswer, IsCompletion}
 use Rattle.drive.specs.declared.answer.Completed.{Completed}
 use Rattle.opalport_c.specs.Answers.{refused_answer}
+use Rattle.opalport_c.specs.Calls.{IsCopyFault}
 use Rattle.opalport_c.specs.Desks.{TakesCommand, CompletesHeld, IsFirstFault, IsRefusedAs, IsCalled}
 use Rattle.opalport_c.specs.declared.answer.Answer.{Answer}
+use Rattle.opalport_c.specs.declared.object.Object.{Object}
 use Rattle.opalport_c.specs.declared.drive_desk.DriveDesk.{DriveDesk}
 
 pub took : (old new : DriveDesk) (mid : DriveState) (given fis payload : List ℕ) → given ≡ fis → mid ≡ old.drive
@@ -117,3 +119,8 @@ refused_call fault old new answer error does is same first =
 pub none_of : {A : Type 0} (o : Option A) → is_some o ≡ false → o ≡ None
 none_of None e = refl
 none_of (Some x) e = absurd (true≢false e)
+
+-- a handle that has something is in use
+pub in_use : (had from : Option Object) → is_some had ≡ true → IsCopyFault had from InUse
+in_use None from there = absurd (true≢false (sym there))
+in_use (Some object) from there = refl
