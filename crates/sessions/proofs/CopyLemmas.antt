@@ -1,5 +1,5 @@
 -- A map that is filled from another one.
-use Rattle.std.proofs.Common.{◌≡◌, ◌==◌, ℕ, Bool, false, List, [], ◌∷◌, take, zero, suc, Some, None, slice_get, refl, sym, ap, ◌∙◌, subst, arith}
+use Rattle.std.proofs.Common.{◌≡◌, ℕ, false, List, [], ◌∷◌, take, zero, suc, Some, slice_get, refl, ap, subst, arith}
 use Rattle.std.proofs.lemmas.Bool.Decides.{nat_tests}
 use Rattle.std.specs.Prelude.{nat_eq, IfSome}
 use Rattle.std.specs.List.{IsDistinct, AllByRecursion}
