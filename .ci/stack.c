@@ -27,7 +27,7 @@ static const uint8_t start_session[] = {
 
 static void *nothing(void *it) { return it; }
 static void *drive_new(void *it) { code = opal_drive_new(&handle, &config); return it; }
-static void *drive_clone(void *it) { code = opal_clone(&twin, &handle); return it; }
+static void *clones(void *it) { code = opal_clone(&twin, &handle); return it; }
 static void *frees_clone(void *it) { code = opal_free(&twin); return it; }
 static void *port_new(void *it) { code = opal_port_new(&handle, &config); return it; }
 static void *hba_new(void *it) { code = opal_hba_new(&handle, &config); return it; }
@@ -150,6 +150,7 @@ static void run(const char *what, void *(*call)(void *), size_t may_take)
 }
 
 #define RUN(call) run(#call, call, MOST)
+#define CLONE(what) run("a clone of " what, clones, MOST_OF_A_COPY), RUN(frees_clone)
 
 int main(void)
 {
@@ -158,16 +159,16 @@ int main(void)
     config.ranges = &locked, config.range_count = 1;
     RUN(version), RUN(tokens), RUN(named);
     RUN(drive_new), RUN(about), RUN(media);
-    RUN(frame), RUN(opened), RUN(send_fis), RUN(send_block), run("drive_clone", drive_clone, MOST_OF_A_COPY), RUN(frees_clone), RUN(receive_fis), RUN(accepts), RUN(data);
+    RUN(frame), RUN(opened), RUN(send_fis), RUN(send_block), CLONE("a drive"), RUN(receive_fis), RUN(accepts), RUN(data);
     RUN(read_fis), RUN(decoded), RUN(payload), RUN(accepts), RUN(expects), RUN(completes), RUN(accepts_into), RUN(completes_into);
     RUN(failure), RUN(reset);
     RUN(read_dma_fis), RUN(accepts), RUN(denial), RUN(denied), RUN(remedy);
     RUN(frees);
     RUN(port_new);
     RUN(port_put), RUN(port_ready), RUN(port_issue), RUN(port_accept), RUN(port_complete), RUN(port_take), RUN(port_data);
-    RUN(port_put), RUN(port_turn), RUN(port_shown), RUN(port_denial), RUN(port_denied), RUN(port_denials), RUN(port_recover), RUN(port_reset), RUN(frees);
+    RUN(port_put), RUN(port_turn), RUN(port_shown), RUN(port_denial), RUN(port_denied), RUN(port_denials), CLONE("a port"), RUN(port_recover), RUN(port_reset), RUN(frees);
     RUN(hba_new);
-    RUN(hba_start), RUN(hba_turn), RUN(hba_issue), RUN(hba_within), RUN(hba_read), RUN(hba_interrupt), RUN(hba_denial), RUN(hba_denied);
+    RUN(hba_start), RUN(hba_turn), RUN(hba_issue), RUN(hba_within), RUN(hba_read), RUN(hba_interrupt), RUN(hba_denial), RUN(hba_denied), CLONE("a controller");
     RUN(hba_cycle), RUN(frees);
     fprintf(stderr, "stack: at most %zu bytes in any call that copies nothing\n", most);
     return wrong;
