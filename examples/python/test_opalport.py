@@ -245,6 +245,23 @@ class OnADrive(unittest.TestCase):
         with self.assertRaises(OpalError):
             self.drive.clone()
 
+    def test_a_copy_of_a_port_has_its_slots(self):
+        with Port() as port:
+            self.assertEqual(port.put(1, 3, Command.READ_QUEUED, lba=100), 1)
+            with port.clone() as copied:
+                self.assertEqual((copied.issue(3), copied.ready()), (2, [(EngineStep.ACCEPT, 3)]))
+                self.assertEqual(copied.put(2, 5, Command.READ_QUEUED, lba=7), 3)
+            self.assertEqual(port.ready(), [(EngineStep.ISSUE, 3)])
+            self.assertEqual(port.issue(3), 2)
+
+    def test_a_copy_of_a_controller_has_its_registers(self):
+        with Hba() as hba:
+            hba.write(0x114, 0x01)  # PxIE.DHRE
+            with hba.clone() as copied:
+                self.assertEqual(copied.read(0x114), 0x01)
+                copied.write(0x114, 0x02)
+                self.assertEqual((hba.read(0x114), copied.read(0x114)), (0x01, 0x02))
+
     def test_a_drive_is_not_pickled(self):
         with self.assertRaises(TypeError):
             pickle.dumps(self.drive)
