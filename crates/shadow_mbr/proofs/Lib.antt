@@ -13,3 +13,5 @@ pub mod Cleared
 pub mod Heads
 pub mod Fills
 pub mod Indexed
+pub mod Same
+pub mod Listed

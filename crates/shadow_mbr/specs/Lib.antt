@@ -1,3 +1,4 @@
 pub mod Stored
 pub mod Places
 pub mod Erasure
+pub mod Same

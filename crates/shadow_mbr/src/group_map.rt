@@ -1,6 +1,7 @@
 //! Groups of the places of neighbouring sectors, by their numbers.
 
-ghost use Rattle.std.specs.Prelude.{◌≡◌, ◌+◌, ◌<◌, ◌≤◌, ◌^◌, IfOk, Some, length, set, vec_len};
+ghost use Rattle.std.specs.Prelude.{◌≡◌, ◌+◌, ◌<◌, ◌≤◌, ◌^◌, ◌++◌, IfOk, OnOk, Some, length, set, vec_len};
+ghost use Rattle.std.specs.Map.{keys_of};
 ghost use Rattle.shadow_mbr.specs.Places.{group_size, group_at, groups_of, no_places, placed_from, placed_in};
 ghost use Rattle.shadow_mbr.specs.Erasure.{is_erased, blocks_erased};
 
@@ -8,6 +9,7 @@ use crate::erasing::erase_group;
 use crate::erasure::Erasure;
 use crate::indexes::Indexes;
 use crate::kept::Block;
+use crate::listing::list_group;
 use std::alloc::{AllocError, Global};
 use std::collections::BTreeMap;
 use std::marker::Model;
@@ -117,6 +119,41 @@ fn erase_groups(
     }
 }
 
+/// Appends the sectors of the group at an index that have a place.
+fn list_at(
+    sectors: &mut Vec<u64>,
+    first: u128,
+    groups: &[Group],
+    at: usize,
+) -> Result<(), AllocError>
+    requires { first + group_size < 2 ^ 128 }
+    ensures listed { OnOk result (sectors.new.items
+        ≡ sectors.old.items ++ keys_of (placed_from first (group_at groups.now at))) }
+    ensures long { length (group_at groups.now at) ≤ group_size }
+{
+    if at < groups.len() {
+        list_group(sectors, first, &groups[at])?;
+    }
+    Ok(())
+}
+
+/// The sectors of all groups that have a place.
+fn list_groups(
+    alloc: Global,
+    indexes: &BTreeMap<u64, u32>,
+    groups: &[Group],
+) -> Result<Vec<u64>, AllocError>
+    ensures { IfOk result (λ v. v.items
+        ≡ keys_of (placed_in (groups_of indexes.now.entries groups.now))) }
+{
+    let mut sectors = Vec::new(alloc);
+    for (number, at) in indexes {
+        let first = u128::from(*number) * u128::from(GROUP);
+        list_at(&mut sectors, first, groups, *at as usize)?;
+    }
+    Ok(sectors)
+}
+
 impl Groups {
     ghost use Rattle.std.specs.Prelude.{IfOk, ◌≡◌, ◌<◌, ℕ, [], None, Some, IfSome, OnOk, OnErr, length, option_map, set, unwrap_or};
     ghost use Rattle.std.specs.Option.{option_copied};
@@ -195,6 +232,13 @@ impl Groups {
         if let Some(at) = self.indexes.get(number) {
             put_at(&mut self.groups, at as usize, index, None);
         }
+    }
+
+    /// The sectors that have a place, rising.
+    pub(crate) fn sectors(&self, alloc: Global) -> Result<Vec<u64>, AllocError>
+        ensures { IfOk result (λ v. v.items ≡ keys_of (placed_in self.now)) }
+    {
+        list_groups(alloc, self.indexes.tree(), &self.groups)
     }
 
     /// Makes zeros of the blocks of the sectors that are erased.

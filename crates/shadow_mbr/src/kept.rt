@@ -237,6 +237,13 @@ impl Kept {
         self.places.get(sector).is_some()
     }
 
+    /// The sectors that are kept, rising.
+    pub(crate) fn sectors(&self, alloc: Global) -> Result<Vec<u64>, AllocError>
+        ensures { IfOk result (λ v. v.items ≡ keys_of self.now) }
+    {
+        self.places.sectors(alloc)
+    }
+
     /// What the sector holds, zeros where it is not kept.
     pub(crate) fn sector(&self, sector: u64) -> &Block
         ensures value { result.now ≡ unwrap_or (block_in self.now sector) zeros }

@@ -1,5 +1,6 @@
 //! The bytes of the MBR table.
 
+use crate::kept::Block;
 use crate::sectors::Sectors;
 use std::alloc::{AllocError, Global};
 use std::marker::Model;
@@ -21,8 +22,10 @@ impl Model for Mbr {
 }
 
 impl Mbr {
-    ghost use Rattle.std.specs.Prelude.{IfOk, ◌≡◌, ◌+◌, ◌*◌, ◌^◌, ◌≤◌, ◌<◌, ◌↔◌, ℕ, length, IsTrue, is_some, ◌||◌, OnOk, OnErr, [], slice_index};
-    ghost use Rattle.shadow_mbr.specs.Stored.{sector_size, sector_limit, AreKept, kept_at, has_byte, byte_at, byte_after};
+    ghost use Rattle.std.specs.Prelude.{IfOk, ◌≡◌, ◌+◌, ◌*◌, ◌^◌, ◌≤◌, ◌<◌, ◌↔◌, ℕ, length, IsTrue, is_some, nat_eq, ◌||◌, OnOk, OnErr, [], slice_index};
+    ghost use Rattle.std.specs.List.{list_any};
+    ghost use Rattle.std.specs.Map.{keys_of};
+    ghost use Rattle.shadow_mbr.specs.Stored.{IsSound, sector_size, sector_limit, AreKept, kept_at, has_byte, sector_at, byte_at, byte_after};
 
     /// A table of so many sectors of 512 zeros.
     #[tactic(auto, using(crate::proofs::Zeros::blank_byte))]
@@ -51,6 +54,15 @@ impl Mbr {
         ensures { result ≡ self.now.sectors }
     {
         self.held.sectors()
+    }
+
+    /// What the sector holds.
+    pub fn sector(&self, sector: u64) -> &Block
+        requires { sector < self.now.sectors }
+        ensures value { result.now ≡ sector_at self.now sector }
+        ensures len { length result.now ≡ sector_size }
+    {
+        self.held.sector(sector)
     }
 
     /// Fills the buffer with the bytes from a place on.
@@ -100,6 +112,17 @@ impl Mbr {
         ensures stays { (from len : ℕ) → AreKept self.old from len → AreKept self.new from len }
     {
         self.held.overwrite(at, bytes);
+    }
+
+    /// The numbers of the sectors that are kept, rising.
+    #[tactic(auto, using(crate::proofs::Same::is_kept))]
+    pub fn kept(&self, alloc: Global) -> Result<Vec<u64>, AllocError>
+        ensures exact { IfOk result (λ v. v.items ≡ keys_of self.now.kept) }
+        ensures each { IfOk result (λ v. (sector : ℕ)
+            → is_some (kept_at self.now sector) ≡ list_any (nat_eq sector) v.items) }
+        ensures sound { IsSound self.now }
+    {
+        self.held.kept(alloc)
     }
 
     /// Makes every byte zero, and gives back the memory.

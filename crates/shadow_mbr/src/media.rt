@@ -25,8 +25,10 @@ impl Model for Media {
 }
 
 impl Media {
-    ghost use Rattle.std.specs.Prelude.{◌≡◌, ◌+◌, ◌*◌, ◌/◌, ◌%◌, ◌≤◌, ◌<◌, ◌^◌, ℕ, length, is_some, ◌||◌, OnOk, OnErr, IfOk, [], slice_index, slice_range, replicate, if◌then◌else◌};
-    ghost use Rattle.shadow_mbr.specs.Stored.{sector_size, sector_limit, heads, zeros, kept_at, has_byte, sector_at, byte_at, byte_after, sector_after, sectors_from};
+    ghost use Rattle.std.specs.Prelude.{◌≡◌, ◌+◌, ◌*◌, ◌/◌, ◌%◌, ◌≤◌, ◌<◌, ◌^◌, ℕ, length, is_some, nat_eq, ◌||◌, OnOk, OnErr, IfOk, [], slice_index, slice_range, replicate, if◌then◌else◌};
+    ghost use Rattle.std.specs.List.{list_any};
+    ghost use Rattle.std.specs.Map.{keys_of};
+    ghost use Rattle.shadow_mbr.specs.Stored.{IsSound, sector_size, sector_limit, heads, zeros, kept_at, has_byte, sector_at, byte_at, byte_after, sector_after, sectors_from};
     ghost use Rattle.shadow_mbr.specs.Erasure.{is_erased};
 
     /// So many sectors of zeros.
@@ -57,6 +59,17 @@ impl Media {
         ensures { result ≡ self.now.sectors }
     {
         self.held.sectors()
+    }
+
+    /// The numbers of the sectors that are kept, rising.
+    #[tactic(auto, using(crate::proofs::Same::is_kept))]
+    pub fn kept(&self, alloc: Global) -> Result<Vec<u64>, AllocError>
+        ensures exact { IfOk result (λ v. v.items ≡ keys_of self.now.kept) }
+        ensures each { IfOk result (λ v. (sector : ℕ)
+            → is_some (kept_at self.now sector) ≡ list_any (nat_eq sector) v.items) }
+        ensures sound { IsSound self.now }
+    {
+        self.held.kept(alloc)
     }
 
     /// What the sector holds.

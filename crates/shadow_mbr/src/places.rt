@@ -178,6 +178,13 @@ impl Places {
             .remove(sector / GROUP, (sector % GROUP) as usize);
     }
 
+    /// The sectors that stand somewhere, rising.
+    pub(crate) fn sectors(&self, alloc: Global) -> Result<Vec<u64>, AllocError>
+        ensures { IfOk result (λ v. v.items ≡ keys_of self.now) }
+    {
+        self.groups.sectors(alloc)
+    }
+
     /// Makes zeros of the blocks of the sectors that are erased.
     pub(crate) fn erase(&self, erasure: &Erasure, blocks: &mut Vec<Block>)
         ensures { blocks.new.items

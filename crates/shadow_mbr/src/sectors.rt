@@ -33,6 +33,7 @@ impl Sectors {
     ghost use Rattle.std.specs.Prelude.{◌≡◌, ◌+◌, ◌*◌, ◌/◌, ◌%◌, ◌≤◌, ◌<◌, ◌^◌, ◌==◌, ◌++◌, ℕ, length, OnOk, OnErr, IfOk, IsTrue, ◌↔◌, [], true, false, is_some, slice_index, take, drop, if◌then◌else◌};
     ghost use Rattle.std.specs.Prelude.{IfOk, nat_eq, ◌||◌, None, Some};
     ghost use Rattle.std.specs.List.{list_any};
+    ghost use Rattle.std.specs.Map.{keys_of};
     ghost use Rattle.shadow_mbr.specs.Stored.{IsSound, AreKept, ListsMissing, sector_size, sector_limit, heads, is_among, sector_filled, zeros, kept_at, sector_at, byte_at, byte_after, has_byte, sectors_from};
     ghost use Rattle.shadow_mbr.specs.Erasure.{is_erased};
 
@@ -92,6 +93,13 @@ impl Sectors {
         ensures { result ≡ is_some (kept_at self.now sector) }
     {
         self.kept.has(sector)
+    }
+
+    /// The sectors that are kept, rising.
+    pub(crate) fn kept(&self, alloc: Global) -> Result<Vec<u64>, AllocError>
+        ensures { IfOk result (λ v. v.items ≡ keys_of self.now.kept) }
+    {
+        self.kept.sectors(alloc)
     }
 
     /// Some bytes of one sector, from a place on.

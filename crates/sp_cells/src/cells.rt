@@ -153,6 +153,13 @@ impl Expr {
         let elements = self.elements.clone()?;
         Ok(Expr { elements })
     }
+
+    /// Whether another one has the same elements.
+    pub fn is(&self, other: &Expr) -> bool
+        ensures { IsTrue result ↔ (self.now ≡ other.now) }
+    {
+        self.as_slice() == other.as_slice()
+    }
 }
 
 /// The columns that an ACE speaks of, seen as their list; the empty list stands for all.
@@ -191,6 +198,13 @@ impl Columns {
     {
         let items = self.items.clone()?;
         Ok(Columns { items })
+    }
+
+    /// Whether others are the same.
+    pub fn is(&self, other: &Columns) -> bool
+        ensures { IsTrue result ↔ (self.now ≡ other.now) }
+    {
+        self.as_slice() == other.as_slice()
     }
 }
 
@@ -233,6 +247,22 @@ impl Cell {
             Cell::Columns(columns) => Cell::Columns(columns.copy()?),
             Cell::OneName(name) => Cell::OneName(name.copy()?),
         })
+    }
+
+    /// Whether another one is the same value.
+    pub fn is(&self, other: &Cell) -> bool
+        ensures { IsTrue result ↔ (self.now ≡ other.now) }
+    {
+        match (self, other) {
+            (Cell::Number(number), Cell::Number(it)) => *number == *it,
+            (Cell::Bytes(bytes), Cell::Bytes(it)) => *bytes == *it,
+            (Cell::Uid(uid), Cell::Uid(it)) => *uid == *it,
+            (Cell::Numbers(resets), Cell::Numbers(it)) => *resets == *it,
+            (Cell::Expr(expr), Cell::Expr(it)) => expr.is(it),
+            (Cell::Columns(columns), Cell::Columns(it)) => columns.is(it),
+            (Cell::OneName(name), Cell::OneName(it)) => *name == *it,
+            _ => false,
+        }
     }
 }
 

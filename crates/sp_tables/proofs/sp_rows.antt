@@ -4,3 +4,4 @@ pub mod ExchangeLemmas
 pub mod FamilyLemmas
 pub mod ColumnLemmas
 pub mod CopyLemmas
+pub mod ListLemmas

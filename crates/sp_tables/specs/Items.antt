@@ -1,5 +1,5 @@
 -- The rows of one SP as a flat list.
-use Rattle.std.specs.Prelude.{◌==◌, ℕ, Bool, ◌&&◌, List, [], ◌∷◌, ◌++◌, map, Option, None, Some, unwrap_or, if◌then◌else◌, suc}
+use Rattle.std.specs.Prelude.{◌≡◌, ◌==◌, ℕ, Bool, ◌&&◌, List, [], ◌∷◌, ◌++◌, map, Option, None, Some, unwrap_or, if◌then◌else◌, suc}
 use Rattle.sp_cells.specs.declared.names.Uid.{Uid}
 use Rattle.sp_cells.specs.declared.names.Sp.{Sp}
 use Rattle.sp_cells.specs.declared.names.Column.{Column}
@@ -12,6 +12,15 @@ pub record Item : Type 0 where
   pub object : Uid
   pub column : Column
   pub value : Cell
+
+-- the cell that stands in a list for such a triple
+abbrev pub item_of : Uid × Column × Cell → Item
+item_of p = record { object = p.0; column = p.1; value = p.2 }
+
+-- these were added to a list of such triples
+abbrev pub AddsItems : List (Uid × Column × Cell) → List (Uid × Column × Cell) → List Item
+    → Type 0
+AddsItems old new items = map item_of new ≡ map item_of old ++ items
 
 -- the cells with their SP
 abbrev pub on : Sp → List Item → List PlacedCell

@@ -13,6 +13,7 @@ pub mod factory;
 mod families;
 mod field_rows;
 pub mod halves;
+pub mod listing;
 mod new_rows;
 pub mod rows;
 pub mod runs;
@@ -22,6 +23,7 @@ pub use constants::ConstantRow;
 pub use exchange::{exchange_all, new_cells};
 pub use factory::{laws_of_factory, new_halves, new_locking_sp};
 pub use halves::{FieldTables, SpTables};
+pub use listing::ListedCell;
 pub use rows::{
     AceRow, AuthorityRow, CPinRow, DataRemovalRow, LockingInfoRow, LockingRow, MbrControlRow,
     RangeKeyRow, Row, SpRow, TableRow, TperInfoRow,

@@ -1,14 +1,14 @@
 //! The tables of both SPs, and the setting of cells, all or none.
 
-ghost use Rattle.std.specs.Prelude.{◌≡◌, [], ◌∷◌, IfOk, OnOk, OnErr, Some, option_copied, unwrap_or};
+ghost use Rattle.std.specs.Prelude.{◌≡◌, [], ◌∷◌, map, IfOk, OnOk, OnErr, Some, option_copied, unwrap_or};
 ghost use Rattle.sp_cells.specs.Flat.{with_cells};
-ghost use Rattle.sp_tables.specs.Items.{replaced};
+ghost use Rattle.sp_tables.specs.Items.{replaced, item_of};
 ghost use Rattle.sp_tables.specs.Contents.{Contents, items_of, flat as flat_list, cells_look_up as look_up_in, with_row, factory_contents};
 ghost use Rattle.sp_tables.specs.Faults.{set_fault, TellsFault};
 ghost use Rattle.sp_cells.specs.Config.{sizes_in};
 ghost use Rattle.sp_cells.specs.Ranges.{AreApart};
 
-use crate::sp_rows::{SpTables, exchange_all, new_cells, new_halves};
+use crate::sp_rows::{ListedCell, SpTables, exchange_all, new_cells, new_halves};
 use basics::Profile;
 use sp_cells::{Cell, Column, DriveConfig, Rows, SetError, Sp, TableSizes, Uid};
 use std::alloc::{AllocError, Global};
@@ -98,6 +98,16 @@ impl Tables {
         match sp {
             Sp::Admin => self.admin.cell(object, column),
             Sp::Locking => self.locking.cell(object, column),
+        }
+    }
+
+    /// All cells of an SP, table by table.
+    pub fn cells(&self, alloc: Global, sp: Sp) -> Result<Vec<ListedCell>, AllocError>
+        ensures { IfOk result (λ v. map item_of v.items ≡ items_of self.now sp) }
+    {
+        match sp {
+            Sp::Admin => self.admin.cells(alloc),
+            Sp::Locking => self.locking.cells(alloc),
         }
     }
 }

@@ -10,6 +10,7 @@ ghost use Rattle.sp_tables.specs.Entries.{constant_cell, constant_cells};
 use crate::sp_rows::adding::push_one;
 use crate::sp_rows::entries::{Adds, Numbered, push_family};
 use crate::sp_rows::families::AUTHORITIES;
+use crate::sp_rows::listing::{ListedCell, list_cells};
 use crate::sp_rows::new_rows::{no_text, text};
 use crate::sp_rows::{Row, Run};
 use sp_cells::{Bytes, Cell, Column, RANGES, ResetTypes, Uid, copy_cells};
@@ -71,6 +72,11 @@ impl Row for ConstantRow {
     fn copy(&self, alloc: Global) -> Result<ConstantRow, AllocError> {
         let cells = copy_cells(alloc, &self.cells)?;
         Ok(ConstantRow { cells })
+    }
+
+    fn list(&self, object: Uid, items: &mut Vec<ListedCell>) -> Result<(), AllocError> {
+        list_cells(items, object, &self.cells)?;
+        Ok(())
     }
 }
 

@@ -1,12 +1,13 @@
 //! The tables of one SP: one half of what a drive keeps.
 
-ghost use Rattle.std.specs.Prelude.{◌≡◌, option_copied, is_some, IfOk, OnOk, Some, IsTrue};
+ghost use Rattle.std.specs.Prelude.{◌≡◌, map, option_copied, is_some, IfOk, OnOk, Some, IsTrue};
 ghost use Rattle.std.specs.Bool.{OnTrue, OnFalse};
-ghost use Rattle.sp_tables.specs.Items.{item_at, with_item};
+ghost use Rattle.sp_tables.specs.Items.{item_at, with_item, item_of, AddsItems};
 ghost use Rattle.sp_tables.specs.Halves.{last_items};
 
 use crate::sp_rows::constants::ConstantRow;
 use crate::sp_rows::copies::copy_runs;
+use crate::sp_rows::listing::{ListedCell, list_runs};
 use crate::sp_rows::rows::{
     AceRow, AuthorityRow, CPinRow, DataRemovalRow, LockingInfoRow, LockingRow, MbrControlRow,
     RangeKeyRow, SpRow, TableRow, TperInfoRow,
@@ -83,6 +84,19 @@ impl FieldTables {
         self.tables = copy_runs(alloc, &tables.tables)?;
         self.data_removals = copy_runs(alloc, &tables.data_removals)?;
         self.constants = copy_runs(alloc, &tables.constants)?;
+        Ok(())
+    }
+
+    /// Appends the cells.
+    #[tactic(auto, using(crate::proofs::sp_rows::ListLemmas::listing))]
+    fn list(&self, items: &mut Vec<ListedCell>) -> Result<(), AllocError>
+        ensures { OnOk result (AddsItems items.old.items items.new.items (field_items self.now)) }
+    {
+        list_runs(items, &self.range_keys)?;
+        list_runs(items, &self.locking_infos)?;
+        list_runs(items, &self.tables)?;
+        list_runs(items, &self.data_removals)?;
+        list_runs(items, &self.constants)?;
         Ok(())
     }
 }
@@ -205,5 +219,30 @@ impl SpTables {
         let mut copied = SpTables::empty(alloc);
         copied.fill(alloc, self)?;
         Ok(copied)
+    }
+
+    /// Appends the cells.
+    #[tactic(auto, using(crate::proofs::sp_rows::ListLemmas::listing))]
+    fn list(&self, items: &mut Vec<ListedCell>) -> Result<(), AllocError>
+        ensures { OnOk result (AddsItems items.old.items items.new.items (half_items self.now)) }
+    {
+        list_runs(items, &self.sps)?;
+        list_runs(items, &self.authorities)?;
+        list_runs(items, &self.pins)?;
+        list_runs(items, &self.ranges)?;
+        list_runs(items, &self.mbr_controls)?;
+        list_runs(items, &self.tper_infos)?;
+        list_runs(items, &self.aces)?;
+        self.field.list(items)?;
+        Ok(())
+    }
+
+    /// All cells, table by table.
+    pub fn cells(&self, alloc: Global) -> Result<Vec<ListedCell>, AllocError>
+        ensures { IfOk result (λ v. map item_of v.items ≡ half_items self.now) }
+    {
+        let mut items = Vec::new(alloc);
+        self.list(&mut items)?;
+        Ok(items)
     }
 }

@@ -4,9 +4,10 @@ ghost use Rattle.std.specs.Prelude.{◌≡◌, List, [], ◌∷◌, option_copie
 ghost use Rattle.std.specs.Bool.{OnTrue, OnFalse};
 ghost use Rattle.sp_cells.specs.declared.names.Column.{Column};
 ghost use Rattle.sp_cells.specs.declared.cells.Cell.{Cell};
-ghost use Rattle.sp_tables.specs.Items.{column_at, with_column};
+ghost use Rattle.sp_tables.specs.Items.{column_at, with_column, row_items, AddsItems};
 
-use sp_cells::{Cell, Column};
+use crate::sp_rows::listing::{ListedCell, list_fields};
+use sp_cells::{Cell, Column, Uid};
 use std::alloc::{AllocError, Global};
 use std::mem;
 
@@ -32,6 +33,11 @@ pub trait Row {
     /// The same row once more.
     fn copy(&self, alloc: Global) -> Result<Self, AllocError>
         ensures { IfOk result (λ row. held row ≡ held self.now) };
+
+    /// Appends the cells, which are those of an object.
+    fn list(&self, object: Uid, items: &mut Vec<ListedCell>) -> Result<(), AllocError>
+        ensures { OnOk result
+            (AddsItems items.old.items items.new.items (row_items object (held self.now))) };
 }
 
 /// The match of `cell`: which field has the cell of a column.
@@ -69,6 +75,14 @@ macro_rules! copy_of {
         let mut copied = $kind { $($field: Cell::Number(0),)+ };
         copied.fill($alloc, $row)?;
         Ok(copied)
+    }};
+}
+
+/// The statements of `list`: each field is one more cell.
+macro_rules! list_of {
+    ($row:ident, $object:ident, $items:ident; $($name:ident: $field:ident),+) => {{
+        list_fields($items, $object, &[$((Column::$name, &$row.$field)),+])?;
+        Ok(())
     }};
 }
 
@@ -119,6 +133,10 @@ impl Row for SpRow {
 
     fn copy(&self, alloc: Global) -> Result<SpRow, AllocError> {
         sp_columns!(copy_of self, SpRow, alloc)
+    }
+
+    fn list(&self, object: Uid, items: &mut Vec<ListedCell>) -> Result<(), AllocError> {
+        sp_columns!(list_of self, object, items)
     }
 }
 
@@ -172,6 +190,10 @@ impl Row for AuthorityRow {
     fn copy(&self, alloc: Global) -> Result<AuthorityRow, AllocError> {
         authority_columns!(copy_of self, AuthorityRow, alloc)
     }
+
+    fn list(&self, object: Uid, items: &mut Vec<ListedCell>) -> Result<(), AllocError> {
+        authority_columns!(list_of self, object, items)
+    }
 }
 
 /// A row of the C_PIN table.
@@ -223,6 +245,10 @@ impl Row for CPinRow {
 
     fn copy(&self, alloc: Global) -> Result<CPinRow, AllocError> {
         c_pin_columns!(copy_of self, CPinRow, alloc)
+    }
+
+    fn list(&self, object: Uid, items: &mut Vec<ListedCell>) -> Result<(), AllocError> {
+        c_pin_columns!(list_of self, object, items)
     }
 }
 
@@ -280,6 +306,10 @@ impl Row for LockingRow {
     fn copy(&self, alloc: Global) -> Result<LockingRow, AllocError> {
         locking_columns!(copy_of self, LockingRow, alloc)
     }
+
+    fn list(&self, object: Uid, items: &mut Vec<ListedCell>) -> Result<(), AllocError> {
+        locking_columns!(list_of self, object, items)
+    }
 }
 
 /// The row of the MBRControl table.
@@ -324,6 +354,10 @@ impl Row for MbrControlRow {
     fn copy(&self, alloc: Global) -> Result<MbrControlRow, AllocError> {
         mbr_control_columns!(copy_of self, MbrControlRow, alloc)
     }
+
+    fn list(&self, object: Uid, items: &mut Vec<ListedCell>) -> Result<(), AllocError> {
+        mbr_control_columns!(list_of self, object, items)
+    }
 }
 
 /// The row of the TPerInfo table.
@@ -363,6 +397,10 @@ impl Row for TperInfoRow {
 
     fn copy(&self, alloc: Global) -> Result<TperInfoRow, AllocError> {
         tper_info_columns!(copy_of self, TperInfoRow, alloc)
+    }
+
+    fn list(&self, object: Uid, items: &mut Vec<ListedCell>) -> Result<(), AllocError> {
+        tper_info_columns!(list_of self, object, items)
     }
 }
 
@@ -410,6 +448,10 @@ impl Row for AceRow {
     fn copy(&self, alloc: Global) -> Result<AceRow, AllocError> {
         ace_columns!(copy_of self, AceRow, alloc)
     }
+
+    fn list(&self, object: Uid, items: &mut Vec<ListedCell>) -> Result<(), AllocError> {
+        ace_columns!(list_of self, object, items)
+    }
 }
 
 /// The column of the Locking table that tells the key of a range.
@@ -447,6 +489,10 @@ impl Row for RangeKeyRow {
 
     fn copy(&self, alloc: Global) -> Result<RangeKeyRow, AllocError> {
         range_key_columns!(copy_of self, RangeKeyRow, alloc)
+    }
+
+    fn list(&self, object: Uid, items: &mut Vec<ListedCell>) -> Result<(), AllocError> {
+        range_key_columns!(list_of self, object, items)
     }
 }
 
@@ -506,6 +552,10 @@ impl Row for LockingInfoRow {
     fn copy(&self, alloc: Global) -> Result<LockingInfoRow, AllocError> {
         locking_info_columns!(copy_of self, LockingInfoRow, alloc)
     }
+
+    fn list(&self, object: Uid, items: &mut Vec<ListedCell>) -> Result<(), AllocError> {
+        locking_info_columns!(list_of self, object, items)
+    }
 }
 
 /// A row of the Table table, which tells of another table.
@@ -556,6 +606,10 @@ impl Row for TableRow {
     fn copy(&self, alloc: Global) -> Result<TableRow, AllocError> {
         table_columns!(copy_of self, TableRow, alloc)
     }
+
+    fn list(&self, object: Uid, items: &mut Vec<ListedCell>) -> Result<(), AllocError> {
+        table_columns!(list_of self, object, items)
+    }
 }
 
 /// The row of the DataRemovalMechanism table.
@@ -595,5 +649,9 @@ impl Row for DataRemovalRow {
 
     fn copy(&self, alloc: Global) -> Result<DataRemovalRow, AllocError> {
         data_removal_columns!(copy_of self, DataRemovalRow, alloc)
+    }
+
+    fn list(&self, object: Uid, items: &mut Vec<ListedCell>) -> Result<(), AllocError> {
+        data_removal_columns!(list_of self, object, items)
     }
 }
