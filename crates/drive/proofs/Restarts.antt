@@ -14,10 +14,10 @@ use Rattle.drive.specs.State.{DriveState, KeepsDrive, Agrees, AgreesInOrder}
 use Rattle.drive.proofs.Slots.{no_slot, none_length}
 use Rattle.drive.proofs.Keeping.{keeps-more, ended-keeps}
 
-empty-held : (queue : Queue) (tag : ℕ) → queue ≡ empty_queue → held_at queue tag ≡ None
+pub empty-held : (queue : Queue) (tag : ℕ) → queue ≡ empty_queue → held_at queue tag ≡ None
 empty-held queue tag is = ap (λ (q : Queue). held_at q tag) is ∙ ap (option_map held_command) (no_slot tag)
 
-empty-length : (queue : Queue) → queue ≡ empty_queue → length queue.slots ≡ 32
+pub empty-length : (queue : Queue) → queue ≡ empty_queue → length queue.slots ≡ 32
 empty-length queue is = ap (λ (q : Queue). length q.slots) is ∙ none_length
 
 -- nothing is held after a reset, and media stay

@@ -1,16 +1,20 @@
 //! The large parts of a drive, each in a box of its own: so a drive is moved as a few words.
 
-ghost use Rattle.std.specs.Prelude.{◌≡◌, ◌≤◌, ℕ, [], IfOk};
+ghost use Rattle.std.specs.Prelude.{◌≡◌, ◌≤◌, ℕ, [], IfOk, None};
 ghost use Rattle.shadow_mbr.specs.Stored.{sector_at, zeros};
 ghost use Rattle.history.specs.Opening.{origin_on};
 ghost use Rattle.history.specs.Agreement.{HasNoTries};
 ghost use Rattle.history.specs.KeptStore.{HasKnownRows};
 ghost use Rattle.basics.specs.Addresses.{address_limit};
-ghost use Rattle.tper.specs.Tper.{Keeps};
+ghost use Rattle.sessions.specs.Beside.{new_beside};
+ghost use Rattle.sessions.specs.Live.{session_at};
+ghost use Rattle.sp_cells.specs.Config.{table_sectors};
+ghost use Rattle.tper.specs.Tper.{Keeps, response_at};
+ghost use Rattle.transactions.specs.Stored.{new_store};
 ghost use Rattle.drive.specs.Queue.{AllFit, empty_queue};
 
 use crate::queue::Queue;
-use shadow_mbr::Media;
+use shadow_mbr::{Mbr, Media};
 use sp_tables::Tables;
 use std::alloc::{AllocError, Global};
 use tper::Tper;
@@ -39,6 +43,27 @@ pub(crate) fn tper_over(alloc: Global, tables: Tables) -> Result<Box<Tper>, Allo
     boxed(alloc, Tper::new(alloc, tables))
 }
 
+/// A TPer over these tables and bytes, in which no session lives.
+#[inline(never)]
+pub(crate) fn resumed_tper(
+    alloc: Global,
+    tables: Tables,
+    bytes: Mbr,
+    next: u64,
+    drawn: u64,
+) -> Result<Box<Tper>, AllocError>
+    requires { bytes.sectors ≡ table_sectors tables.config }
+    ensures store { IfOk result (λ tper. tper.value.store ≡ new_store tables bytes) }
+    ensures sessions { IfOk result (λ tper. (n : ℕ) → session_at tper.value.live n ≡ None) }
+    ensures next { IfOk result (λ tper. tper.value.live.next ≡ next) }
+    ensures beside { IfOk result (λ tper.
+        tper.value.live.beside ≡ record new_beside { drawn = drawn }) }
+    ensures waiting { IfOk result (λ tper. (com_id : ℕ)
+        → response_at tper.value.waiting com_id ≡ None) }
+{
+    boxed(alloc, Tper::resumed(alloc, tables, bytes, next, drawn))
+}
+
 /// A queue that holds nothing.
 #[inline(never)]
 pub(crate) fn new_queue(alloc: Global) -> Result<Box<Queue>, AllocError>
@@ -60,6 +85,14 @@ pub(crate) fn new_media(alloc: Global, sectors: u64) -> Result<Box<Media>, Alloc
     ensures blank { IfOk result (λ media. (s : ℕ) → sector_at media.value s ≡ zeros) }
 {
     boxed(alloc, Media::new(alloc, sectors))
+}
+
+/// These media.
+#[inline(never)]
+pub(crate) fn boxed_media(alloc: Global, media: Media) -> Result<Box<Media>, AllocError>
+    ensures { IfOk result (λ b. b.value ≡ media) }
+{
+    boxed(alloc, media)
 }
 
 /// The same TPer once more. It is a call of its own for the stack that it takes, as are the two below.

@@ -45,8 +45,8 @@ fn refresh_where(changes: bool, ranges: &mut Ranges, rows: &View<'_>)
 #[derive(Drop)]
 pub struct Drive {
     pub(crate) alloc: Global,
-    sectors: u64,
-    profile: Profile,
+    pub(crate) sectors: u64,
+    pub(crate) profile: Profile,
     pub(crate) ranges: Ranges,
     pub(crate) tper: Box<Tper>,
     pub(crate) queue: Box<Queue>,

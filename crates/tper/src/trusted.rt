@@ -7,10 +7,11 @@ ghost use Rattle.shadow_mbr.specs.Erasure.{no_sectors};
 ghost use Rattle.shadow_mbr.specs.Stored.{sector_size};
 ghost use Rattle.transactions.specs.Bytes.{bytes_from};
 ghost use Rattle.transactions.specs.Sights.{look_up, committed_sight};
-ghost use Rattle.transactions.specs.Stored.{after_reset, part};
+ghost use Rattle.transactions.specs.Stored.{after_reset, new_store, part};
+ghost use Rattle.sp_cells.specs.Config.{table_sectors};
 ghost use Rattle.sessions.specs.Live.{session_at, session_room, lives_on, lives_of, AreNumberedOf};
 ghost use Rattle.sessions.specs.Made.{closed_if};
-ghost use Rattle.sessions.specs.Beside.{beside_at_reset, channel_of, with_reset_stack, with_told_stack};
+ghost use Rattle.sessions.specs.Beside.{beside_at_reset, channel_of, new_beside, with_reset_stack, with_told_stack};
 ghost use Rattle.sp_cells.specs.declared.names.Sp.TheVariants.{Admin, Locking};
 ghost use Rattle.trusted_cmds.specs.BlockSid.{is_blocked};
 ghost use Rattle.device_data.specs.Discovery.{has_owner};
@@ -130,6 +131,51 @@ impl Tper {
             sessions: Sessions::new(alloc),
             responses: Responses::new(),
         }
+    }
+
+    /// No session lives and nothing waits, where there were sessions before: the next one will have this number, and so
+    /// many random bytes were given.
+    pub fn resumed(alloc: Global, tables: Tables, mbr: Mbr, next: u64, drawn: u64) -> Tper
+        requires { mbr.sectors ≡ table_sectors tables.config }
+        ensures store { result.store ≡ new_store tables mbr }
+        ensures sessions { (n : ℕ) → session_at result.live n ≡ None }
+        ensures next { result.live.next ≡ next }
+        ensures beside { result.live.beside ≡ record new_beside { drawn = drawn } }
+        ensures waiting { (com_id : ℕ) → response_at result.waiting com_id ≡ None }
+    {
+        // The tables have limits, which the number of the shadow's sectors says.
+        let _ = tables.config().table_sizes();
+        Tper {
+            alloc,
+            store: Store::new(alloc, tables, mbr),
+            sessions: Sessions::resumed(alloc, next, drawn),
+            responses: Responses::new(),
+        }
+    }
+
+    /// The tables, and the bytes of the byte tables. Where no transaction is open they are all that is kept of both.
+    pub fn kept(&self) -> (&Tables, &Mbr)
+        ensures alone { (part self.now.store Admin).pending ≡ None
+            → (part self.now.store Locking).pending ≡ None
+            → self.now.store ≡ new_store result.0.now result.1.now }
+        ensures config { result.0.now.config ≡ self.now.store.config }
+        ensures sectors { result.1.now.sectors ≡ table_sectors self.now.store.config }
+    {
+        self.store.kept()
+    }
+
+    /// The number that the next session will have.
+    pub fn next_session(&self) -> u64
+        ensures { result ≡ self.now.live.next }
+    {
+        self.sessions.next()
+    }
+
+    /// How many random bytes were given.
+    pub fn drawn(&self) -> u64
+        ensures { result ≡ self.now.live.beside.drawn }
+    {
+        self.sessions.beside().drawn
     }
 
     /// The same once more, in memory of its own.

@@ -84,6 +84,17 @@ impl Store {
         })
     }
 
+    /// The tables, and the bytes of the byte tables. Where no transaction is open they are all that the store keeps.
+    pub fn kept(&self) -> (&Tables, &Mbr)
+        ensures alone { (part self.now Admin).pending ≡ None
+            → (part self.now Locking).pending ≡ None
+            → self.now ≡ new_store result.0.now result.1.now }
+        ensures config { result.0.now.config ≡ self.now.config }
+        ensures sectors { result.1.now.sectors ≡ table_sectors self.now.config }
+    {
+        (&self.tables, &self.mbr)
+    }
+
     /// The session whose transaction is open on the SP.
     pub fn open_on(&self, sp: Sp) -> Option<SessionId>
         ensures { result
