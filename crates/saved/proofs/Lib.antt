@@ -1,0 +1,2 @@
+mod Injective
+mod Results
