@@ -9,14 +9,13 @@ use Rattle.hba_regs.specs.declared.register.Register.{Register}
 use Rattle.hba_regs.specs.declared.register.Register.TheVariants as at
 use Rattle.hba_regs.specs.Registers.{Regs, register_at, has_bits, start_bit, run_if, disk_signature}
 use Rattle.history.specs.History.{Accept, Complete}
-use Rattle.history.specs.Opening.{Origin}
 use Rattle.host_memory.specs.declared.hba_memory.miss.Miss.{Miss}
 use Rattle.host_memory.specs.declared.hba_memory.miss.Miss.TheVariants as misses
 use Rattle.port_history.specs.Registers.{raised, with_task, task_error_bit, carried, no_more_issued, shown, all_shown, is_finished, register_bit, pio_setup_bit, dma_setup_bit, device_bits_bit}
 use Rattle.hba.specs.declared.registers.Registers.{Registers}
 use Rattle.hba.specs.Registers.{is_up, port_at, reset_bit, enable_bit, override_bit, control_bits, exchange_bit, phy_error_bit, change_bit, phy_change_bit, kept, optioned, overridden, stopped_if, lost_if, found_if, goes_down, comes_up, noted, port_written, port_written_of, after_hba_reset, written_at, no_signature}
 use Rattle.hba.specs.Showing.{served, moved, fetching}
-use Rattle.hba.specs.History.{Operation, Wrote, Powered, Signed, Missed, Controlled, Asserted, Restarted, Unheard, Fetched, Completed, account, regs_of, effect_after}
+use Rattle.hba.specs.History.{Opened, Operation, Wrote, Powered, Signed, Missed, Controlled, Asserted, Restarted, Unheard, Fetched, Completed, account, regs_of, effect_after}
 use Rattle.hba.specs.BitLaws.{at_register, by_write, link_after, linked, exchange_after, link_came_up, phy_after, link_changed, ErrorsLaw, ChangesLaw, signature_after, signature_told, SignatureLaw}
 use Rattle.hba.proofs.BitByBit.{or_false}
 
@@ -155,7 +154,7 @@ served_control (Some misses.Overflow) tag list regs = refl
 served_control (Some misses.Fis) tag list regs = all_control tag list regs.port
 
 abbrev LinkedLaw : Type 0
-LinkedLaw = (o : Origin) (list : List Operation) → is_linked (regs_of o list) ≡ linked list
+LinkedLaw = (o : Opened) (list : List Operation) → is_linked (regs_of o list) ≡ linked list
 
 pub linked_law : LinkedLaw
 linked_law o [] = refl
@@ -266,7 +265,7 @@ served_errors (Some misses.Block) tag list regs = (refl, refl)
 served_errors (Some misses.Overflow) tag list regs = (refl, refl)
 served_errors (Some misses.Fis) tag list regs = (refl, refl)
 
-exchanged_law : (o : Origin) (list : List Operation) → (regs_of o list).is_exchanged ≡ link_came_up list
+exchanged_law : (o : Opened) (list : List Operation) → (regs_of o list).is_exchanged ≡ link_came_up list
 exchanged_law o [] = refl
 exchanged_law o (Wrote offset value ∷ before) =
     let regs = regs_of o before in
@@ -290,7 +289,7 @@ exchanged_law o (Completed tag payload arrival ∷ before) =
     (moved arrival (regs_of o before))).0
     ∙ exchanged_law o before
 
-changed_law : (o : Origin) (list : List Operation) → (regs_of o list).has_phy_changed ≡ link_changed list
+changed_law : (o : Opened) (list : List Operation) → (regs_of o list).has_phy_changed ≡ link_changed list
 changed_law o [] = refl
 changed_law o (Wrote offset value ∷ before) =
     let regs = regs_of o before in
@@ -377,7 +376,7 @@ served_signed (Some misses.Block) tag list regs = refl
 served_signed (Some misses.Overflow) tag list regs = refl
 served_signed (Some misses.Fis) tag list regs = refl
 
-signed_law : (o : Origin) (list : List Operation) → (regs_of o list).is_signed ≡ signature_told list
+signed_law : (o : Opened) (list : List Operation) → (regs_of o list).is_signed ≡ signature_told list
 signed_law o [] = refl
 signed_law o (Wrote offset value ∷ before) =
     let regs = regs_of o before in

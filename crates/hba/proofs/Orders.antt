@@ -5,9 +5,7 @@ use Rattle.fis.specs.Types.{h2d_length}
 use Rattle.fis.specs.H2d.{h2d_at}
 use Rattle.fis.specs.declared.any.Fis.{Fis}
 use Rattle.history.specs.Answers.{errored, answer_fis, payload_of}
-use Rattle.history.specs.Facts.{facts}
-use Rattle.history.specs.History.{Act, Accept, Complete, log, event_by}
-use Rattle.history.specs.Opening.{Origin}
+use Rattle.history.specs.History.{Act, Accept, Complete, event_by}
 use Rattle.slots.specs.Layout.{descriptor_size, header_size}
 use Rattle.slots.specs.Header.{entry_count}
 use Rattle.slots.specs.Table.{is_command}
@@ -20,7 +18,7 @@ use Rattle.host_memory.specs.declared.hba_memory.delivery.Arrival.{Arrival}
 use Rattle.host_memory.specs.declared.hba_memory.delivery.Place.{Place}
 use Rattle.host_memory.specs.Memory.{is_sound_header, command_table_of, header_by, data_at, data_len, descriptors_of, data_taken, written_by, ending, moved_by, then_bytes, BringsBlock, BringsEntry, BringsNext, Gathers, Scatters, Counts, PostsTo, PostsOne, After, EndsBy}
 use Rattle.hba.specs.declared.registers.Registers.{Registers}
-use Rattle.hba.specs.History.{Operation, Missed, Controlled, Asserted, Restarted, Unheard, Fetched, Completed, Account, account, acts_of, regs_of, drive_effect}
+use Rattle.hba.specs.History.{facts_of, Opened, Operation, Missed, Controlled, Asserted, Restarted, Unheard, Fetched, Completed, Account, account, acts_of, regs_of, drive_effect}
 use Rattle.hba.specs.Showing.{moved, served, fetching}
 use Rattle.hba.specs.SoftwareReset.{resets_behind}
 use Rattle.hba.specs.Ready.{is_ready_after}
@@ -119,7 +117,7 @@ gather_lacks tell m at (suc n) left talk behind brought from h =
     (λ more later given. gather_lacks tell m (at + descriptor_size) n more later behind given) from h
 
 -- The act, where no rule applies.
-act_first : (o : Origin) (a : Account) (place : Place) (fetched : Option ℕ) (act : List ℕ → Act) (operation : List ℕ → Arrival → Operation)
+act_first : (o : Opened) (a : Account) (place : Place) (fetched : Option ℕ) (act : List ℕ → Act) (operation : List ℕ → Arrival → Operation)
     (gone : Moved) (brought : Result (List ℕ) Miss) (first : Option Operation) (talk : List Access) (done : Operation)
     → Lacks (Missed fetched) first brought → Acts o a place fetched act operation gone brought talk done
     → EndsFirst first operation done
@@ -128,7 +126,7 @@ act_first o a place fetched act operation gone (Err miss) first talk done l h =
 act_first o a place fetched act operation gone (Ok payload) first talk done l h =
     subst (λ (it : Option Operation). EndsFirst it operation done) (sym l) (payload, h.0, h.2)
 
-serve_first : (m : MemoryAnswers) (o : Origin) (a : Account) (place : Place) (n : ℕ) (fetched : Option ℕ) (act : List ℕ → Act)
+serve_first : (m : MemoryAnswers) (o : Opened) (a : Account) (place : Place) (n : ℕ) (fetched : Option ℕ) (act : List ℕ → Act)
     (operation : List ℕ → Arrival → Operation) (talk : List Access) (done : Operation) → AreAnswered m talk
     → ServesSo o a place n fetched act operation talk done
     → EndsFirst (first_rule (data_rules (Missed fetched) m (descriptors_of place.header) place.header.entries n)) operation done
@@ -140,9 +138,9 @@ serve_first m o a place n fetched act operation talk done from h =
     h.5
 
 -- A FIS, by what it carries.
-abbrev of_command : MemoryAnswers → Origin → Account → ℕ → Header → List ℕ → List (Bool × Operation)
+abbrev of_command : MemoryAnswers → Opened → Account → ℕ → Header → List ℕ → List (Bool × Operation)
 of_command m o a tag header fis =
-    data_rules (Missed (Some tag)) m (descriptors_of header) header.entries (payload_of o.tables.config fis)
+    data_rules (Missed (Some tag)) m (descriptors_of header) header.entries (payload_of o.origin.tables.config fis)
 
 control_first : (sets was : Bool) (a : Account) (tag : ℕ) (rules : List (Bool × Operation)) (operation : List ℕ → Arrival → Operation)
     (talk : List Access) (done : Operation) → ControlsTo sets was a tag talk done
@@ -151,15 +149,15 @@ control_first true was a tag rules operation talk done h = h.1
 control_first false true a tag rules operation talk done h = h.2
 control_first false false a tag rules operation talk done h = h.1
 
-hear_first : (was : Bool) (m : MemoryAnswers) (o : Origin) (a : Account) (tag : ℕ) (header : Header) (fis : List ℕ) (talk : List Access)
+hear_first : (was : Bool) (m : MemoryAnswers) (o : Opened) (a : Account) (tag : ℕ) (header : Header) (fis : List ℕ) (talk : List Access)
     (done : Operation) → AreAnswered m talk → HearsIf was o a (place_of a.registers tag header) tag fis talk done
     → EndsFirst (first_rule ((was, Unheard tag) ∷ of_command m o a tag header fis)) (Fetched tag fis) done
 hear_first true m o a tag header fis talk done from h = h.1
 hear_first false m o a tag header fis talk done from h =
-    serve_first m o a (place_of a.registers tag header) (payload_of o.tables.config fis) (Some tag) (Accept fis) (Fetched tag fis)
+    serve_first m o a (place_of a.registers tag header) (payload_of o.origin.tables.config fis) (Some tag) (Accept fis) (Fetched tag fis)
     talk done from h
 
-if_first : (is was : Bool) (m : MemoryAnswers) (o : Origin) (a : Account) (tag : ℕ) (header : Header) (fis : List ℕ) (talk : List Access)
+if_first : (is was : Bool) (m : MemoryAnswers) (o : Opened) (a : Account) (tag : ℕ) (header : Header) (fis : List ℕ) (talk : List Access)
     (done : Operation) → a.registers.in_reset ≡ was → AreAnswered m talk
     → FetchesIf is o a (place_of a.registers tag header) tag fis talk done
     → EndsFirst (first_rule ((not is && resets_behind a.registers.in_reset fis, Asserted tag)
@@ -172,7 +170,7 @@ if_first true was m o a tag header fis talk done e from h =
     hear_first a.registers.in_reset m o a tag header fis talk done from h
 
 -- By the answer for the FIS.
-abbrev of_fis : MemoryAnswers → Origin → Account → ℕ → Header → Option (List ℕ) → List (Bool × Operation)
+abbrev of_fis : MemoryAnswers → Opened → Account → ℕ → Header → Option (List ℕ) → List (Bool × Operation)
 of_fis m o a tag header fis =
     let is_control = not (is_command (bytes_read fis)) in
     let was = a.registers.in_reset in
@@ -180,14 +178,14 @@ of_fis m o a tag header fis =
     ∷ (is_control && resets_behind was (bytes_read fis), Asserted tag) ∷ (is_control && was, Restarted tag)
     ∷ (is_control, Controlled tag) ∷ (was, Unheard tag) ∷ of_command m o a tag header (bytes_read fis)
 
-fis_first : (m : MemoryAnswers) (o : Origin) (a : Account) (tag : ℕ) (header : Header) (fis : Option (List ℕ)) (talk : List Access)
+fis_first : (m : MemoryAnswers) (o : Opened) (a : Account) (tag : ℕ) (header : Header) (fis : Option (List ℕ)) (talk : List Access)
     (done : Operation) → AreAnswered m talk → FetchesFis o a (place_of a.registers tag header) tag fis talk done
     → EndsFirst (first_rule (of_fis m o a tag header fis)) (Fetched tag (bytes_read fis)) done
 fis_first m o a tag header None talk done from h = h.1
 fis_first m o a tag header (Some fis) talk done from h =
     if_first (is_command fis) a.registers.in_reset m o a tag header fis talk done refl from h
 
-table_first : (m : MemoryAnswers) (o : Origin) (a : Account) (tag : ℕ) (header : Header) (talk : List Access) (done : Operation)
+table_first : (m : MemoryAnswers) (o : Opened) (a : Account) (tag : ℕ) (header : Header) (talk : List Access) (done : Operation)
     → AreAnswered m talk → FetchesFrom o a tag (Ok header) talk done
     → EndsFirst (first_rule (of_fis m o a tag header (m header.table h2d_length)))
     (Fetched tag (bytes_read (m header.table h2d_length))) done
@@ -200,7 +198,7 @@ table_first m o a tag header talk done from h =
 abbrev named : List ℕ → Header
 named bytes = record { table = command_table_of bytes; entries = entry_count bytes }
 
-sound_first : (is : Bool) (m : MemoryAnswers) (o : Origin) (a : Account) (tag : ℕ) (bytes : List ℕ) (talk : List Access) (done : Operation)
+sound_first : (is : Bool) (m : MemoryAnswers) (o : Opened) (a : Account) (tag : ℕ) (bytes : List ℕ) (talk : List Access) (done : Operation)
     → AreAnswered m talk → FetchesFrom o a tag (if is then Ok (named bytes) else Err misses.Table) talk done
     → EndsFirst (first_rule ((not is, Missed (Some tag) misses.Table)
     ∷ of_fis m o a tag (named bytes) (m (command_table_of bytes) h2d_length)))
@@ -208,13 +206,13 @@ sound_first : (is : Bool) (m : MemoryAnswers) (o : Origin) (a : Account) (tag : 
 sound_first false m o a tag bytes talk done from h = h.1
 sound_first true m o a tag bytes talk done from h = table_first m o a tag (named bytes) talk done from h
 
-abbrev of_header : MemoryAnswers → Origin → Account → ℕ → Option (List ℕ) → List (Bool × Operation)
+abbrev of_header : MemoryAnswers → Opened → Account → ℕ → Option (List ℕ) → List (Bool × Operation)
 of_header m o a tag header =
     (is_none header, Missed (Some tag) misses.List)
     ∷ (not (is_sound_header (bytes_read header)), Missed (Some tag) misses.Table)
     ∷ of_fis m o a tag (named (bytes_read header)) (m (command_table_of (bytes_read header)) h2d_length)
 
-header_first : (m : MemoryAnswers) (o : Origin) (a : Account) (tag : ℕ) (header : Option (List ℕ)) (talk : List Access) (done : Operation)
+header_first : (m : MemoryAnswers) (o : Opened) (a : Account) (tag : ℕ) (header : Option (List ℕ)) (talk : List Access) (done : Operation)
     → AreAnswered m talk → FetchesFrom o a tag (header_by header) talk done
     → EndsFirst (first_rule (of_header m o a tag header))
     (Fetched tag (bytes_read (m (command_table_of (bytes_read header)) h2d_length))) done
@@ -236,14 +234,14 @@ of_held m tag n header =
     (is_none header, Missed None misses.List) ∷ (not (is_sound_header (bytes_read header)), Missed None misses.Table)
     ∷ rules_of_data (Missed None) m (bytes_read header) n
 
-sound_held : (is : Bool) (m : MemoryAnswers) (o : Origin) (a : Account) (tag n : ℕ) (bytes : List ℕ) (talk : List Access) (done : Operation)
+sound_held : (is : Bool) (m : MemoryAnswers) (o : Opened) (a : Account) (tag n : ℕ) (bytes : List ℕ) (talk : List Access) (done : Operation)
     → AreAnswered m talk → CompletesFrom o a tag n (if is then Ok (named bytes) else Err misses.Table) talk done
     → EndsFirst (first_rule ((not is, Missed None misses.Table) ∷ rules_of_data (Missed None) m bytes n)) (Completed tag) done
 sound_held false m o a tag n bytes talk done from h = h.1
 sound_held true m o a tag n bytes talk done from h =
     serve_first m o a (place_of a.registers tag (named bytes)) n None (Complete tag) (Completed tag) talk done from h
 
-header_held : (m : MemoryAnswers) (o : Origin) (a : Account) (tag n : ℕ) (header : Option (List ℕ)) (talk : List Access) (done : Operation)
+header_held : (m : MemoryAnswers) (o : Opened) (a : Account) (tag n : ℕ) (header : Option (List ℕ)) (talk : List Access) (done : Operation)
     → AreAnswered m talk → CompletesFrom o a tag n (header_by header) talk done
     → EndsFirst (first_rule (of_held m tag n header)) (Completed tag) done
 header_held m o a tag n None talk done from h = h.1
@@ -282,7 +280,7 @@ posts_missed (Some at) fis talk missed h = post_missed h.1 h.2 missed h.5
 
 pub error_order : ErrorOrder
 error_order o before tag fis payload error place brought talk arrival e h =
-    let f = facts o (log o (acts_of o before)) in
+    let f = facts_of o (acts_of o before) in
     let event = event_by f (Accept fis payload) in
     let n = (length payload + length (drive_effect o (account o before) (Accept fis payload)).bytes) / block_size in
     let sent = ap (map (of_last_block n)) (fises_failed f (h2d_at fis) event error e) in

@@ -10,7 +10,6 @@ use Rattle.hba_regs.specs.declared.register.Register.{Register}
 use Rattle.hba_regs.specs.declared.register.Register.TheVariants as at
 use Rattle.hba_regs.specs.Registers.{Regs, register_at, has_bits, start_bit, receive_bit, run_if, without}
 use Rattle.history.specs.History.{Accept, Complete}
-use Rattle.history.specs.Opening.{Origin}
 use Rattle.host_memory.specs.declared.hba_memory.miss.Miss.{Miss}
 use Rattle.host_memory.specs.declared.hba_memory.miss.Miss.TheVariants as misses
 use Rattle.host_memory.specs.declared.hba_memory.delivery.Arrival.{Arrival}
@@ -18,7 +17,7 @@ use Rattle.port_history.specs.Registers.{raised, with_task, task_error_bit, carr
 use Rattle.hba.specs.declared.registers.Registers.{Registers}
 use Rattle.hba.specs.Registers.{port_at, reset_bit, enable_bit, override_bit, packet_bit, light_bit, control_bits, overflow_bit, processed_bit, kept, stopped_if, overridden, lost_if, found_if, goes_down, comes_up, port_written, port_written_of, after_hba_reset, generic_written, written_at}
 use Rattle.hba.specs.Showing.{served, moved, fetching, bits_of}
-use Rattle.hba.specs.History.{Operation, Wrote, Powered, Signed, Missed, Controlled, Asserted, Restarted, Unheard, Fetched, Completed, account, regs_of, effect_after}
+use Rattle.hba.specs.History.{Opened, Operation, Wrote, Powered, Signed, Missed, Controlled, Asserted, Restarted, Unheard, Fetched, Completed, account, regs_of, effect_after}
 use Rattle.hba.specs.AccessTypes.{HasOwnBits}
 use Rattle.hba.specs.OwnBits.{OwnBitsLaw}
 use Rattle.hba.proofs.CurrentLaw.{current_law}
@@ -181,7 +180,7 @@ moved_own arrival regs w =
     (if arrival.is_processed then bit_or regs.port.interrupts processed_bit else regs.port.interrupts) refl
     (own_if arrival.is_processed processed_bit regs.port.interrupts refl w)
 
-own_so : (o : Origin) (list : List Operation) → IsOwn (regs_of o list).port.interrupts
+own_so : (o : Opened) (list : List Operation) → IsOwn (regs_of o list).port.interrupts
 own_so o [] = refl
 own_so o (Wrote offset value ∷ before) = written_own (regs_of o before) offset value (own_so o before)
 own_so o (Powered ∷ before) = refl

@@ -7,7 +7,6 @@ use Rattle.slots.specs.Table.{is_command}
 use Rattle.fis.specs.declared.any.Fis.{Fis}
 use Rattle.history.specs.Answers.{payload_of}
 use Rattle.history.specs.History.{Act, Accept, Complete}
-use Rattle.history.specs.Opening.{Origin}
 use Rattle.host_memory.specs.Access.{Access, Asked, Laid, AreReads}
 use Rattle.host_memory.specs.declared.hba_memory.miss.Miss.{Miss}
 use Rattle.host_memory.specs.declared.hba_memory.reading.Header.{Header}
@@ -16,7 +15,7 @@ use Rattle.host_memory.specs.declared.hba_memory.delivery.Arrival.{Arrival}
 use Rattle.host_memory.specs.declared.hba_memory.delivery.Place.{Place}
 use Rattle.host_memory.specs.Memory.{data_len, descriptors_of, header_by, data_taken, written_by, ending, moved_by, Scatters, TakesNext, TakesEntry, TakesBlock, Counts, CountsIf, Posts, PostsOne, PostsTo, After, EndsBy, Delivers}
 use Rattle.hba.specs.declared.work.Work.TheVariants as works
-use Rattle.hba.specs.History.{Operation, Fetched, Completed, Account, account, effect_after}
+use Rattle.hba.specs.History.{Opened, Operation, Fetched, Completed, Account, account, effect_after}
 use Rattle.hba.specs.SoftwareReset.{resets_behind}
 use Rattle.hba.specs.Engine.{header_at, fises_at, signature_fis, place_of, Acts, ServesSo, ControlsTo, HearsIf, FetchesIf, FetchesFis, FetchesFrom, CompletesFrom, wanted_after}
 use Rattle.hba.specs.Writes.{IsByteCount, IsReceivedFis, IsOfBlock, WritesOwn, WritesLaw}
@@ -147,7 +146,7 @@ delivers_own place brought list bytes talk arrival d =
     (ends_own place.at (data_taken list brought.len + written_by d.0) place.to list (ending d.2) d.1 arrival.missed d.7)
 
 -- A command.
-acts_own : (o : Origin) (a : Account) (place : Place) (fetched : Option ℕ) (act : List ℕ → Act)
+acts_own : (o : Opened) (a : Account) (place : Place) (fetched : Option ℕ) (act : List ℕ → Act)
     (operation : List ℕ → Arrival → Operation) (moved : Moved) (brought : Result (List ℕ) Miss)
     (talk : List Access) (done : Operation) → Acts o a place fetched act operation moved brought talk done
     → WritesOwn (Some place.at) place.to None talk
@@ -155,7 +154,7 @@ acts_own o a place fetched act operation moved (Err miss) talk done h = none_own
 acts_own o a place fetched act operation moved (Ok payload) talk done h =
     delivers_own place moved (effect_after o a (act payload)).fises (effect_after o a (act payload)).bytes talk h.0 h.1
 
-serves_own : (o : Origin) (a : Account) (place : Place) (n : ℕ) (fetched : Option ℕ) (act : List ℕ → Act)
+serves_own : (o : Opened) (a : Account) (place : Place) (n : ℕ) (fetched : Option ℕ) (act : List ℕ → Act)
     (operation : List ℕ → Arrival → Operation) (talk : List Access) (done : Operation)
     → ServesSo o a place n fetched act operation talk done → WritesOwn (Some place.at) place.to None talk
 serves_own o a place n fetched act operation talk done s =
@@ -174,31 +173,31 @@ controls_own false true a tag talk done h =
     posts_to_own (Some (header_at a.registers tag)) (fises_at a.registers) (signature_fis ∷ []) talk h.0 h.1
 controls_own false false a tag talk done h = none_own (Some (header_at a.registers tag)) (fises_at a.registers) None talk h.0
 
-hears_own : (in_reset : Bool) (o : Origin) (a : Account) (tag : ℕ) (header : Header) (fis : List ℕ) (talk : List Access)
+hears_own : (in_reset : Bool) (o : Opened) (a : Account) (tag : ℕ) (header : Header) (fis : List ℕ) (talk : List Access)
     (done : Operation) → HearsIf in_reset o a (place_of a.registers tag header) tag fis talk done → Own a tag None talk
 hears_own true o a tag header fis talk done h = none_own (Some (header_at a.registers tag)) (fises_at a.registers) None talk h.0
 hears_own false o a tag header fis talk done h =
-    serves_own o a (place_of a.registers tag header) (payload_of o.tables.config fis) (Some tag) (Accept fis) (Fetched tag fis) talk done h
+    serves_own o a (place_of a.registers tag header) (payload_of o.origin.tables.config fis) (Some tag) (Accept fis) (Fetched tag fis) talk done h
 
-if_own : (is : Bool) (o : Origin) (a : Account) (tag : ℕ) (header : Header) (fis : List ℕ) (talk : List Access)
+if_own : (is : Bool) (o : Opened) (a : Account) (tag : ℕ) (header : Header) (fis : List ℕ) (talk : List Access)
     (done : Operation) → FetchesIf is o a (place_of a.registers tag header) tag fis talk done → Own a tag None talk
 if_own false o a tag header fis talk done h =
     controls_own (resets_behind a.registers.in_reset fis) a.registers.in_reset a tag talk done h
 if_own true o a tag header fis talk done h = hears_own a.registers.in_reset o a tag header fis talk done h
 
-fis_own : (o : Origin) (a : Account) (tag : ℕ) (header : Header) (fis : Option (List ℕ)) (talk : List Access)
+fis_own : (o : Opened) (a : Account) (tag : ℕ) (header : Header) (fis : Option (List ℕ)) (talk : List Access)
     (done : Operation) → FetchesFis o a (place_of a.registers tag header) tag fis talk done → Own a tag None talk
 fis_own o a tag header None talk done h = none_own (Some (header_at a.registers tag)) (fises_at a.registers) None talk h.0
 fis_own o a tag header (Some fis) talk done h = if_own (is_command fis) o a tag header fis talk done h
 
-from_own : (o : Origin) (a : Account) (tag : ℕ) (header : Result Header Miss) (talk : List Access)
+from_own : (o : Opened) (a : Account) (tag : ℕ) (header : Result Header Miss) (talk : List Access)
     (done : Operation) → FetchesFrom o a tag header talk done → Own a tag None talk
 from_own o a tag (Err miss) talk done h = none_own (Some (header_at a.registers tag)) (fises_at a.registers) None talk h.0
 from_own o a tag (Ok header) talk done h =
     subst (Own a tag None) (sym h.2)
     (weaker (Some (header_at a.registers tag)) (fises_at a.registers) h.0 h.1 (fis_own o a tag header h.0 h.1 done h.3))
 
-end_own : (o : Origin) (a : Account) (tag n : ℕ) (header : Result Header Miss) (talk : List Access)
+end_own : (o : Opened) (a : Account) (tag n : ℕ) (header : Result Header Miss) (talk : List Access)
     (done : Operation) → CompletesFrom o a tag n header talk done → Own a tag None talk
 end_own o a tag n (Err miss) talk done h = none_own (Some (header_at a.registers tag)) (fises_at a.registers) None talk h.0
 end_own o a tag n (Ok header) talk done h =

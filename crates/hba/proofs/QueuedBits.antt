@@ -15,8 +15,7 @@ use Rattle.device_data.specs.declared.settings.Settings.{Settings}
 use Rattle.trusted_cmds.specs.declared.command.CommandError.{CommandError}
 use Rattle.history.specs.Answers.{errored, ready, answer_fis, is_holding, served_fises, fises_read, fises_of, completed_fises}
 use Rattle.history.specs.Events.{HeldCommand}
-use Rattle.history.specs.Facts.{facts}
-use Rattle.history.specs.History.{Accept, Complete, log, event_by}
+use Rattle.history.specs.History.{Accept, Complete, event_by}
 use Rattle.history.specs.Tcg.{command_read}
 use Rattle.host_memory.specs.declared.hba_memory.miss.Miss.{Miss}
 use Rattle.host_memory.specs.declared.hba_memory.miss.Miss.TheVariants as misses
@@ -25,7 +24,7 @@ use Rattle.hba.specs.declared.registers.Registers.{Registers}
 use Rattle.hba.specs.Registers.{port_written}
 use Rattle.hba.specs.Blocks.{block_size, of_last_block}
 use Rattle.hba.specs.Showing.{served, moved, fetching}
-use Rattle.hba.specs.History.{Wrote, Powered, Signed, Missed, Controlled, Asserted, Restarted, Unheard, Fetched, Completed, account, acts_of, regs_of, drive_effect, effect_after}
+use Rattle.hba.specs.History.{facts_of, Wrote, Powered, Signed, Missed, Controlled, Asserted, Restarted, Unheard, Fetched, Completed, account, acts_of, regs_of, drive_effect, effect_after}
 use Rattle.hba.specs.BitLaws.{word_has, by_write, runs, shown_if, one_ends_queued, queues, QueuedLaw}
 use Rattle.hba.proofs.BitsOfWords.{has_zero, has_or, has_without}
 use Rattle.hba.proofs.BitByBit.{seen, written_so, commanded, controlled_so, or_false, running_law}
@@ -192,7 +191,7 @@ queued_law o (Asserted slot ∷ before) tag w t = queued_law o before tag w.1 t
 queued_law o (Restarted slot ∷ before) tag w t = queued_law o before tag w.1 t
 queued_law o (Unheard slot ∷ before) tag w t = queued_law o before tag w.1 t
 queued_law o (Fetched slot fis payload arrival ∷ before) tag w t =
-    let f = facts o (log o (acts_of o before)) in
+    let f = facts_of o (acts_of o before) in
     let event = event_by f (Accept fis payload) in
     let list = (effect_after o (account o before) (Accept fis payload)).fises in
     let n = (length payload + length (drive_effect o (account o before) (Accept fis payload)).bytes) / block_size in
@@ -200,7 +199,7 @@ queued_law o (Fetched slot fis payload arrival ∷ before) tag w t =
     (accepted_words n f.settings event.failed (is_holding event.deed) (command_read f.config (h2d_at fis)))
     ∙ ap (λ (b : Bool). not (one_ends_queued tag (shown_if arrival.missed list)) && b) (queued_law o before tag w.1 t)
 queued_law o (Completed slot payload arrival ∷ before) tag w t =
-    let f = facts o (log o (acts_of o before)) in
+    let f = facts_of o (acts_of o before) in
     let list = (effect_after o (account o before) (Complete slot payload)).fises in
     served_queued arrival.missed tag slot list (moved arrival (regs_of o before)) t
     (completed_words slot (f.held slot) w.0)

@@ -20,7 +20,6 @@ use Rattle.history.specs.Events.{HeldCommand, Deed, Wrote as WroteSectors, Event
 use Rattle.history.specs.Facts.{Facts}
 use Rattle.history.specs.History.{Act, Accept, Complete, Reset, SoftwareReset, event_by}
 use Rattle.history.specs.MethodLaws.{IsLookedAt}
-use Rattle.history.specs.Opening.{Origin}
 use Rattle.history.specs.Tcg.{tcg, command_read}
 use Rattle.history.specs.TransferLaws.{IsPermitted}
 use Rattle.history.proofs.MethodProofs.{looked_event, looked_law}
@@ -39,7 +38,7 @@ use Rattle.host_memory.proofs.Deliveries.{delivered_law}
 use Rattle.hba.specs.declared.registers.Registers.{Registers}
 use Rattle.hba.specs.Blocks.{block_size, of_last_block}
 use Rattle.hba.specs.Showing.{served, moved, fetching}
-use Rattle.hba.specs.History.{Operation, account, acts_of, regs_of, drive_effect, effect_after}
+use Rattle.hba.specs.History.{Opened, Operation, account, acts_of, regs_of, drive_effect, effect_after}
 use Rattle.hba.specs.BitLaws.{word_has, one_ends}
 use Rattle.hba.specs.Service.{GivesWhole, serving_fises, bytes_served, EndsFetched, EndsHeld, facts_behind, ReadServedLaw, IsWritten, WriteServedLaw, HeldReadLaw, IsWrittenHeld, HeldWriteLaw}
 use Rattle.hba.proofs.BitByBit.{served_issued}
@@ -122,7 +121,7 @@ active_clear missed tag count to_host fises regs m f t =
     ∙ ap (λ (b : Bool). not b && word_has regs.port.active tag) (equal tag tag refl)))
 
 -- A fetched command that is served.
-answered_so : (o : Origin) (before : List Operation) (tag : ℕ) (fis payload : List ℕ) (command : Command) (fises : List Fis) (bytes : List ℕ)
+answered_so : (o : Opened) (before : List Operation) (tag : ℕ) (fis payload : List ℕ) (command : Command) (fises : List Fis) (bytes : List ℕ)
     → command_read (facts_behind o before).config (h2d_at fis) ≡ Ok (command, None)
     → (event_by (facts_behind o before) (Accept fis payload)).failed ≡ None
     → is_holding (event_by (facts_behind o before) (Accept fis payload)).deed ≡ false
@@ -182,7 +181,7 @@ by_writer P command slot op lba count (write_pio {lba = l} {count = n}) none is 
 by_writer P command slot op lba count (verify {lba = l} {count = n}) none is dma pio = absurd (no_write is)
 
 -- Reads and verifications.
-read_so : (o : Origin) (before : List Operation) (tag : ℕ) (fis payload : List ℕ) (command : Command) (lba count : ℕ) (fises : List Fis)
+read_so : (o : Opened) (before : List Operation) (tag : ℕ) (fis payload : List ℕ) (command : Command) (lba count : ℕ) (fises : List Fis)
     (bytes : List ℕ) → Reaches command None Read lba count
     → ((h : RegH2d) (brought : List ℕ) → looked_event tcg (facts_behind o before) h brought command None
     ≡ by_verdict was_read (on_drive (facts_behind o before) lba count) (verdict_on (facts_behind o before) Read lba count))
@@ -218,7 +217,7 @@ read_law o before tag fis payload command lba count looked reaches on permitted 
     looked
 
 -- Writes.
-write_so : (o : Origin) (before : List Operation) (tag : ℕ) (fis payload : List ℕ) (command : Command) (lba count : ℕ)
+write_so : (o : Opened) (before : List Operation) (tag : ℕ) (fis payload : List ℕ) (command : Command) (lba count : ℕ)
     → Reaches command None Write lba count
     → ((h : RegH2d) (brought : List ℕ) → looked_event tcg (facts_behind o before) h brought command None
     ≡ by_verdict (WroteSectors lba brought) (on_drive (facts_behind o before) lba count) (verdict_on (facts_behind o before) Write lba count))
@@ -257,7 +256,7 @@ write_law o before tag fis payload command lba count looked reaches on permitted
     looked
 
 -- A held command.
-completed_so : (o : Origin) (before : List Operation) (tag : ℕ) (payload : List ℕ) (h : HeldCommand) (to_host : Bool)
+completed_so : (o : Opened) (before : List Operation) (tag : ℕ) (payload : List ℕ) (h : HeldCommand) (to_host : Bool)
     (count : ℕ) (bytes : List ℕ) → (facts_behind o before).held tag ≡ Some h
     → completed_fises tag (Some h) ≡ setup_fis to_host tag (sector_size * count) ∷ moved_fis tag ∷ []
     → completed_data (facts_behind o before) (Some h) ≡ bytes

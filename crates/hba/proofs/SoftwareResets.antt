@@ -1,7 +1,6 @@
 -- FISes that carry no command, by SRST.
 use Rattle.std.proofs.Common.{◌≡◌, ℕ, Bool, true, false, List, [], ◌∷◌, Option, None, refl, sym, ap, subst, ◌∙◌}
 use Rattle.fis.specs.declared.any.Fis.{Fis}
-use Rattle.history.specs.Opening.{Origin}
 use Rattle.host_memory.specs.Access.{Access, Accessed}
 use Rattle.host_memory.specs.declared.hba_memory.miss.Miss.{Miss}
 use Rattle.host_memory.specs.declared.hba_memory.delivery.Place.{Place}
@@ -11,12 +10,12 @@ use Rattle.hba.specs.declared.work.Done.{Done}
 use Rattle.hba.specs.declared.work.Heard.{Heard}
 use Rattle.hba.specs.declared.work.Done.TheVariants as dones
 use Rattle.hba.specs.SoftwareReset.{resets_behind}
-use Rattle.hba.specs.History.{Operation, Controlled, Asserted, Restarted, Unheard, State, AgreesHba, Adds, account, regs_of, IsHeard}
+use Rattle.hba.specs.History.{Opened, Operation, Controlled, Asserted, Restarted, Unheard, State, AgreesHba, Adds, account, regs_of, IsHeard}
 use Rattle.hba.specs.Engine.{fises_at, signature_fis, ControlsTo, Controls, HearsIf, Executes, TurnsAs}
 use Rattle.hba.proofs.Turns.{turn_named, turn_told}
 
 -- SRST of the registers is that of the list.
-same_reset : (old : State) (o : Origin) (list : List Operation) (b : Bool) → AgreesHba old o list
+same_reset : (old : State) (o : Opened) (list : List Operation) (b : Bool) → AgreesHba old o list
     → old.registers.in_reset ≡ b → b ≡ (regs_of o list).in_reset
 same_reset old o list b a e = sym e ∙ ap (λ (r : Registers). r.in_reset) a.registers
 

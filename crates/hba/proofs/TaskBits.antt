@@ -9,14 +9,13 @@ use Rattle.hba_regs.specs.declared.register.Register.{Register}
 use Rattle.hba_regs.specs.declared.register.Register.TheVariants as at
 use Rattle.hba_regs.specs.Registers.{Regs, register_at, has_bits, start_bit, receive_bit, run_if}
 use Rattle.history.specs.History.{Accept, Complete}
-use Rattle.history.specs.Opening.{Origin}
 use Rattle.host_memory.specs.declared.hba_memory.miss.Miss.{Miss}
 use Rattle.host_memory.specs.declared.hba_memory.miss.Miss.TheVariants as misses
 use Rattle.port_history.specs.Registers.{raised, with_task, task_error_bit, carried, no_more_issued, shown, all_shown, is_finished, register_bit, pio_setup_bit, dma_setup_bit, device_bits_bit}
 use Rattle.hba.specs.declared.registers.Registers.{Registers}
 use Rattle.hba.specs.Registers.{is_up, port_at, reset_bit, enable_bit, override_bit, packet_bit, light_bit, control_bits, link_bits, fastest, speed_by, link_word, kept, stopped_if, overridden, lost_if, found_if, goes_down, comes_up, noted, port_written, port_written_of, after_hba_reset, written_at}
 use Rattle.hba.specs.Showing.{served, moved, fetching}
-use Rattle.hba.specs.History.{Operation, Wrote, Powered, Signed, Missed, Controlled, Asserted, Restarted, Unheard, Fetched, Completed, account, regs_of, effect_after}
+use Rattle.hba.specs.History.{Opened, Operation, Wrote, Powered, Signed, Missed, Controlled, Asserted, Restarted, Unheard, Fetched, Completed, account, regs_of, effect_after}
 use Rattle.hba.specs.BitLaws.{linked, shown_if}
 use Rattle.hba.specs.TaskLaws.{left_at, left_by, Task, awaited_task, task_told, task_told_by, task_overridden, task_linked, task_after, task_of, TaskLaw, detection_after, detection, speed_after, link_speed, LinkStatusLaw}
 use Rattle.hba.proofs.LinkBits.{is_linked, linked_law, link_control, command_control, run_control, tags_control, served_control}
@@ -151,7 +150,7 @@ served_task (Some misses.Block) tag list regs = refl
 served_task (Some misses.Overflow) tag list regs = refl
 served_task (Some misses.Fis) tag list regs = fises_task tag list regs.port
 
-task_so : (o : Origin) (list : List Operation) → shown_task (regs_of o list) ≡ task_of o list
+task_so : (o : Opened) (list : List Operation) → shown_task (regs_of o list) ≡ task_of o list
 task_so o [] = refl
 task_so o (Wrote offset value ∷ before) =
     let regs = regs_of o before in
@@ -219,7 +218,7 @@ port_detection value regs at.Issue =
     ap (λ (n : ℕ). n % 16)
     (tags_control regs.port.running (record regs.port { issued = bit_or regs.port.issued value }) regs.port refl)
 
-detection_so : (o : Origin) (list : List Operation) → shown_detection (regs_of o list) ≡ detection list
+detection_so : (o : Opened) (list : List Operation) → shown_detection (regs_of o list) ≡ detection list
 detection_so o [] = refl
 detection_so o (Wrote offset value ∷ before) =
     let regs = regs_of o before in
@@ -300,7 +299,7 @@ served_speed (Some misses.Block) tag list regs = refl
 served_speed (Some misses.Overflow) tag list regs = refl
 served_speed (Some misses.Fis) tag list regs = refl
 
-speed_so : (o : Origin) (list : List Operation) → shown_speed (regs_of o list) ≡ link_speed list
+speed_so : (o : Opened) (list : List Operation) → shown_speed (regs_of o list) ≡ link_speed list
 speed_so o [] = refl
 speed_so o (Wrote offset value ∷ before) =
     let regs = regs_of o before in

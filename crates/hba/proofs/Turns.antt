@@ -10,7 +10,6 @@ use Rattle.audit.specs.declared.reason.Why.{Why}
 use Rattle.history.specs.Answers.{expected, payload_of}
 use Rattle.history.specs.Events.{Event}
 use Rattle.history.specs.History.{Act, Accept, Complete}
-use Rattle.history.specs.Opening.{Origin}
 use Rattle.drive.specs.Queue.{held_at}
 use Rattle.slots.specs.Layout.{header_size, descriptor_size}
 use Rattle.host_memory.specs.Access.{Access, Asked, IsAccess, Accessed, OnlyReads, AreReads}
@@ -30,26 +29,26 @@ use Rattle.hba.specs.declared.work.Heard.{Heard}
 use Rattle.hba.specs.declared.work.Outcome.{Outcome}
 use Rattle.hba.specs.declared.work.Done.TheVariants as dones
 use Rattle.hba.specs.Showing.{fault_of, arrived, fetching}
-use Rattle.hba.specs.History.{Operation, Wrote, Powered, Signed, Missed, Controlled, Asserted, Restarted, Unheard, Fetched, Completed, Account, State, HasActed, AgreesHba, Adds, account, acts_of, regs_of, effect_after, TellsDenial, IsHeard, IsHeardOf, denial_heard}
+use Rattle.hba.specs.History.{Opened, Operation, Wrote, Powered, Signed, Missed, Controlled, Asserted, Restarted, Unheard, Fetched, Completed, Account, State, HasActed, AgreesHba, Adds, account, acts_of, regs_of, effect_after, TellsDenial, IsHeard, IsHeardOf, denial_heard}
 use Rattle.hba.specs.Ready.{ready_on, picked}
 use Rattle.hba.specs.Engine.{header_at, fises_at, place_of, IsEffect, ServesSo, Executes, Controls, HearsIf, FetchesIf, FetchesFis, FetchesFrom, Fetches, CompletesFrom, Completes, Signs, signature_fis, IsWork, done_of, TurnsAs, TurnsBy, HasRun, Runs, HasStopped}
 use Rattle.hba.proofs.Works.{ready_same}
 
 -- The account of a list, with the registers of an HBA that agrees with it.
-abbrev with_registers : State → Origin → List Operation → Account
+abbrev with_registers : State → Opened → List Operation → Account
 with_registers hba o list = record { acts = acts_of o list; registers = hba.registers }
 
-same_account : (hba : State) (o : Origin) (list : List Operation) → AgreesHba hba o list
+same_account : (hba : State) (o : Opened) (list : List Operation) → AgreesHba hba o list
     → with_registers hba o list ≡ account o list
 same_account hba o list a =
     ap (λ (r : Registers). let x : Account = record { acts = acts_of o list; registers = r } in x) a.registers
 
 -- One access more, in front of a turn.
 pub turn_behind : {M : Type 0} (does : M → Access → M → Type 0)
-    (First Next : Origin → Account → List Access → Operation → Type 0)
+    (First Next : Opened → Account → List Access → Operation → Type 0)
     (old : State) (before middle : M) (new : State) (after : M) (done : Done) (heard : Option Heard)
     (access : Access) → IsAccess does before access middle
-    → ((o : Origin) (list : List Operation) → AgreesHba old o list → (talk : List Access)
+    → ((o : Opened) (list : List Operation) → AgreesHba old o list → (talk : List Access)
     (operation : Operation) → Next o (account o list) talk operation
     → First o (account o list) (access ∷ talk) operation)
     → TurnsAs does Next old middle new after done (IsHeard heard)
@@ -66,9 +65,9 @@ turn_behind does First Next old before middle new after done heard access answer
 
 -- Another name for what was done.
 pub turn_named : {M : Type 0} (does : M → Access → M → Type 0)
-    (First Next : Origin → Account → List Access → Operation → Type 0)
+    (First Next : Opened → Account → List Access → Operation → Type 0)
     (old : State) (before : M) (new : State) (after : M) (done : Done) (heard : Option Heard)
-    → ((o : Origin) (list : List Operation) → AgreesHba old o list → (talk : List Access)
+    → ((o : Opened) (list : List Operation) → AgreesHba old o list → (talk : List Access)
     (operation : Operation) → Next o (account o list) talk operation
     → First o (account o list) talk operation)
     → TurnsAs does Next old before new after done (IsHeard heard)
@@ -85,9 +84,9 @@ turn_named does First Next old before new after done heard step t = (
 
 -- Less is told of what was done.
 pub turn_less : {M : Type 0} (does : M → Access → M → Type 0)
-    (Did : Origin → Account → List Access → Operation → Type 0) (old : State) (before : M) (new : State)
-    (after : M) (done : Done) (Told Less : Origin → Account → Operation → Type 0)
-    → ((o : Origin) (a : Account) (operation : Operation) → Told o a operation → Less o a operation)
+    (Did : Opened → Account → List Access → Operation → Type 0) (old : State) (before : M) (new : State)
+    (after : M) (done : Done) (Told Less : Opened → Account → Operation → Type 0)
+    → ((o : Opened) (a : Account) (operation : Operation) → Told o a operation → Less o a operation)
     → TurnsAs does Did old before new after done Told
     → TurnsAs does Did old before new after done Less
 turn_less does Did old before new after done Told Less step t = (
@@ -105,7 +104,7 @@ denied_of : (heard : Option Heard) (fis payload : List ℕ) (event : Event) → 
 denied_of None fis payload event h = absurd h
 denied_of (Some heard) fis payload event h = h.denied
 
-denied_so : (heard : Option Heard) (o : Origin) (a : Account) (operation : Operation)
+denied_so : (heard : Option Heard) (o : Opened) (a : Account) (operation : Operation)
     → IsHeard heard o a operation → TellsDenial (denial_heard heard) o a operation
 denied_so heard o a (Fetched tag fis payload arrival) h =
     denied_of heard fis payload (effect_after o a (Accept fis payload)).event h
@@ -132,9 +131,9 @@ turn_tells does old before new last after work done heard why e n t =
 
 -- Nothing more is asked.
 pub turn_missed : {M : Type 0} (does : M → Access → M → Type 0)
-    (Did : Origin → Account → List Access → Operation → Type 0) (old : State) (now : M)
+    (Did : Opened → Account → List Access → Operation → Type 0) (old : State) (now : M)
     (new : State) (fetched : Option ℕ) (miss : Miss)
-    → ((o : Origin) (list : List Operation) → AgreesHba old o list
+    → ((o : Opened) (list : List Operation) → AgreesHba old o list
     → Did o (account o list) [] (Missed fetched miss))
     → Adds (Missed fetched miss) old new
     → TurnsAs does Did old now new now (dones.Fault (fault_of miss)) (IsHeard None)
@@ -148,11 +147,11 @@ turn_missed does Did old now new fetched miss did adds = (
 
 -- A FIS of which memory is asked nothing more.
 pub turn_told : {M : Type 0} (does : M → Access → M → Type 0)
-    (Did : Origin → Account → List Access → Operation → Type 0) (old : State) (now : M)
+    (Did : Opened → Account → List Access → Operation → Type 0) (old : State) (now : M)
     (new : State) (operation : Operation)
     → done_of operation ≡ Some dones.Control
-    → ((o : Origin) (list : List Operation) → IsHeard None o (account o list) operation)
-    → ((o : Origin) (list : List Operation) → AgreesHba old o list
+    → ((o : Opened) (list : List Operation) → IsHeard None o (account o list) operation)
+    → ((o : Opened) (list : List Operation) → AgreesHba old o list
     → Did o (account o list) [] operation)
     → Adds operation old new
     → TurnsAs does Did old now new now dones.Control (IsHeard None)
@@ -204,12 +203,12 @@ serves_missed does place n fetched act operation old before new after miss g add
 )
 
 -- FISes and data of an act, for every list that the HBA agreed with.
-abbrev pub Gives : State → (List Operation → Origin → Act) → List Fis → List ℕ → Type 0
+abbrev pub Gives : State → (List Operation → Opened → Act) → List Fis → List ℕ → Type 0
 Gives old act fises bytes =
-    (o : Origin) (list : List Operation) → AgreesHba old o list
+    (o : Opened) (list : List Operation) → AgreesHba old o list
     → IsEffect (effect_after o (account o list) (act list o)) fises bytes
 
-delivers_effect : (o : Origin) (a : Account) (act : Act) (place : Place) (moved : Moved) (fises : List Fis)
+delivers_effect : (o : Opened) (a : Account) (act : Act) (place : Place) (moved : Moved) (fises : List Fis)
     (bytes : List ℕ) (talk : List Access) (arrival : Arrival)
     → IsEffect (effect_after o a act) fises bytes → Delivers place moved fises bytes talk arrival
     → Delivers place moved (effect_after o a act).fises (effect_after o a act).bytes talk arrival
@@ -224,10 +223,10 @@ pub serves_done : {M : Type 0} (does : M → Access → M → Type 0) (place : P
     → BroughtBy does place n before middle (Ok payload) moved
     → Delivered does place moved fises bytes middle after arrival
     → done_of (operation payload arrival) ≡ Some done
-    → ((o : Origin) (list : List Operation) → AgreesHba old o list
+    → ((o : Opened) (list : List Operation) → AgreesHba old o list
     → IsEffect (effect_after o (account o list) (act payload)) fises bytes)
     → Adds (operation payload arrival) old new
-    → ((o : Origin) (list : List Operation) → AgreesHba old o list
+    → ((o : Opened) (list : List Operation) → AgreesHba old o list
     → IsHeard heard o (account o list) (operation payload arrival))
     → TurnsAs does (λ o a. ServesSo o a place n fetched act operation) old before new after done (IsHeard heard)
 serves_done does place n fetched act operation old before middle new after payload fises bytes moved arrival done heard g d told gives adds says = (
@@ -257,9 +256,9 @@ serves_done does place n fetched act operation old before middle new after paylo
 -- The registers are those that an act leaves.
 pub adds_fetched : (old acted new : State) (tag : ℕ) (fis payload : List ℕ) (fises : List Fis)
     (bytes : List ℕ) (arrival : Arrival)
-    → ((o : Origin) (list : List Operation) → AgreesHba old o list
+    → ((o : Opened) (list : List Operation) → AgreesHba old o list
     → HasActed acted o (Accept fis payload ∷ acts_of o list))
-    → ((o : Origin) (list : List Operation) → AgreesHba old o list
+    → ((o : Opened) (list : List Operation) → AgreesHba old o list
     → IsEffect (effect_after o (account o list) (Accept fis payload)) fises bytes)
     → new ≡ record acted { registers = arrived tag fises arrival (fetching tag old.registers) }
     → Adds (Fetched tag fis payload arrival) old new
@@ -275,9 +274,9 @@ adds_fetched old acted new tag fis payload fises bytes arrival has gives e = λ 
 
 pub adds_completed : (old acted new : State) (tag : ℕ) (payload : List ℕ) (fises : List Fis)
     (bytes : List ℕ) (arrival : Arrival)
-    → ((o : Origin) (list : List Operation) → AgreesHba old o list
+    → ((o : Opened) (list : List Operation) → AgreesHba old o list
     → HasActed acted o (Complete tag payload ∷ acts_of o list))
-    → ((o : Origin) (list : List Operation) → AgreesHba old o list
+    → ((o : Opened) (list : List Operation) → AgreesHba old o list
     → IsEffect (effect_after o (account o list) (Complete tag payload)) fises bytes)
     → new ≡ record acted { registers = arrived tag fises arrival old.registers }
     → Adds (Completed tag payload arrival) old new
@@ -439,7 +438,7 @@ runs_none does old before = ([], refl, λ o list a. (list, a, (refl, refl)))
 
 pub runs_more : {M : Type 0} (does : M → Access → M → Type 0) (n : ℕ) (first : State) (start : M)
     (old : State) (before : M) (new : State) (after : M) (work : Work) (done : Done)
-    (Told : Origin → Account → Operation → Type 0) → Runs does n first start old before
+    (Told : Opened → Account → Operation → Type 0) → Runs does n first start old before
     → picked 0 (ready_on old) ≡ Some work → TurnsBy does work old before new after done Told
     → Runs does (n + 1) first start new after
 unfolding HasRun
@@ -479,7 +478,7 @@ has_stopped does n first start old middle new after ran e reads = (
 
 -- An outcome that is known.
 pub told_as : {M : Type 0} (does : M → Access → M → Type 0)
-    (Did : Origin → Account → List Access → Operation → Type 0) (old : State) (before : M)
+    (Did : Opened → Account → List Access → Operation → Type 0) (old : State) (before : M)
     (new : State) (after : M) (outcome : Outcome) (done : Done) (heard : Option Heard)
     → outcome ≡ record { done = done; heard = heard }
     → TurnsAs does Did old before new after done (IsHeard heard)
@@ -489,7 +488,7 @@ told_as does Did old before new after outcome done heard e t =
 
 -- A turn that may fail for want of memory.
 pub if_turned : {M E : Type 0} (does : M → Access → M → Type 0)
-    (First Next : Origin → Account → List Access → Operation → Type 0)
+    (First Next : Opened → Account → List Access → Operation → Type 0)
     (old : State) (before middle : M) (new : State) (after : M) (result : Result Outcome E)
     → ((done : Done) (heard : Option Heard) → TurnsAs does Next old middle new after done (IsHeard heard)
     → TurnsAs does First old before new after done (IsHeard heard))
@@ -572,7 +571,7 @@ runs_still {M} does n first start old before new after ran e f =
 
 -- Nothing of the state is another before it and behind it.
 pub turn_between : {M E : Type 0} (does : M → Access → M → Type 0)
-    (Did : Origin → Account → List Access → Operation → Type 0) (first old : State) (before : M)
+    (Did : Opened → Account → List Access → Operation → Type 0) (first old : State) (before : M)
     (new last : State) (after : M) (result : Result Outcome E) → old ≡ first → last ≡ new
     → IfOk result (λ r. TurnsAs does Did old before new after r.done (IsHeard r.heard))
     → IfOk result (λ r. TurnsAs does Did first before last after r.done (IsHeard r.heard))
@@ -581,7 +580,7 @@ turn_between does Did first old before new last after result e f h =
     (subst (λ (s : State). IfOk result (λ r. TurnsAs does Did old before s after r.done (IsHeard r.heard))) (sym f) h)
 
 pub turn_kept : {M : Type 0} (does : M → Access → M → Type 0)
-    (Did : Origin → Account → List Access → Operation → Type 0) (old : State) (before : M)
+    (Did : Opened → Account → List Access → Operation → Type 0) (old : State) (before : M)
     (new last : State) (after : M) (done : Done) (heard : Option Heard) → last ≡ new
     → TurnsAs does Did old before new after done (IsHeard heard)
     → TurnsAs does Did old before last after done (IsHeard heard)

@@ -7,11 +7,9 @@ use Rattle.hba.specs.declared.registers.Registers.{Registers}
 use Rattle.hba.specs.declared.work.Work.{Work}
 use Rattle.hba.specs.declared.work.Work.TheVariants as works
 use Rattle.fis.specs.Tags.{slot_count}
-use Rattle.history.specs.History.{log}
-use Rattle.history.specs.Opening.{Origin}
 use Rattle.history.specs.Readers.{held}
 use Rattle.drive.specs.Queue.{held_at}
-use Rattle.hba.specs.History.{State, Operation, AgreesHba, acts_of, regs_of}
+use Rattle.hba.specs.History.{whole_log, Opened, State, Operation, AgreesHba, acts_of, regs_of}
 use Rattle.hba.specs.Ready.{is_ready, if_ready, fetches, completions, ready_by, ready_on, ready_after, picked}
 
 pub one_fetch : (xs : List Work) (passes : Work → Bool) (n : ℕ)
@@ -27,11 +25,11 @@ one_completion xs passes n =
     ∙ ap (λ k. xs ++ completions passes k) (sym (add-one n))
 
 -- What may be done is the same by the state and by a list that it agrees with.
-pub ready_same : (hba : State) (o : Origin) (list : List Operation) → AgreesHba hba o list
+pub ready_same : (hba : State) (o : Opened) (list : List Operation) → AgreesHba hba o list
     → ready_on hba ≡ ready_after o list
 ready_same hba o list a =
     let e : (λ (tag : ℕ). is_some (held_at hba.drive.queue tag))
-    ≡ (λ (tag : ℕ). is_some (held (log o (acts_of o list)) tag)) =
+    ≡ (λ (tag : ℕ). is_some (held (whole_log o (acts_of o list)) tag)) =
     fun_ext (λ tag. ap is_some (a.acted.drive.held tag)) in
     ap (λ (r : Registers). ready_by (is_ready r (λ tag. is_some (held_at hba.drive.queue tag)))) a.registers
     ∙ ap (λ (h : ℕ → Bool). ready_by (is_ready (regs_of o list) h)) e

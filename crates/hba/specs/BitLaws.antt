@@ -9,13 +9,12 @@ use Rattle.hba_regs.specs.declared.register.Register.{Register}
 use Rattle.hba_regs.specs.declared.register.Register.TheVariants as at
 use Rattle.hba_regs.specs.Registers.{register_at, has_bits, start_bit, disk_signature}
 use Rattle.history.specs.History.{Accept, Complete}
-use Rattle.history.specs.Opening.{Origin}
 use Rattle.port_history.specs.Registers.{is_finished, register_bit, pio_setup_bit, dma_setup_bit, device_bits_bit, task_error_bit}
 use Rattle.host_memory.specs.declared.hba_memory.miss.Miss.{Miss}
 use Rattle.host_memory.specs.declared.hba_memory.delivery.Arrival.{Arrival}
 use Rattle.hba.specs.Registers.{word_at, port_at, is_up, reset_bit, no_signature, exchange_bit, phy_error_bit, change_bit, phy_change_bit, processed_bit, overflow_bit}
 use Rattle.hba.specs.Showing.{shows_fises, bits_of}
-use Rattle.hba.specs.History.{Operation, Wrote, Powered, Signed, Missed, Controlled, Asserted, Restarted, Unheard, Fetched, Completed, account, regs_of, effect_after}
+use Rattle.hba.specs.History.{Opened, Operation, Wrote, Powered, Signed, Missed, Controlled, Asserted, Restarted, Unheard, Fetched, Completed, account, regs_of, effect_after}
 
 -- A bit of a word.
 abbrev pub word_has : ℕ → ℕ → Bool
@@ -73,11 +72,11 @@ abbrev pub shown_if : Option Miss → List Fis → List Fis
 shown_if None list = list
 shown_if (Some miss) list = if shows_fises miss then list else []
 
-abbrev pub fetch_shows : Origin → List Operation → List ℕ → List ℕ → Arrival → List Fis
+abbrev pub fetch_shows : Opened → List Operation → List ℕ → List ℕ → Arrival → List Fis
 fetch_shows o before fis payload arrival =
     shown_if arrival.missed (effect_after o (account o before) (Accept fis payload)).fises
 
-abbrev pub completion_shows : Origin → List Operation → ℕ → List ℕ → Arrival → List Fis
+abbrev pub completion_shows : Opened → List Operation → ℕ → List ℕ → Arrival → List Fis
 completion_shows o before tag payload arrival =
     shown_if arrival.missed (effect_after o (account o before) (Complete tag payload)).fises
 
@@ -101,7 +100,7 @@ issues value tag running before register = before
 
 -- A slot's command was issued since ST was cleared and a reset came, and has not ended: by a FIS of its
 -- own, or as a FIS that carries no command.
-abbrev pub issued_since : Origin → ℕ → List Operation → Bool
+abbrev pub issued_since : Opened → ℕ → List Operation → Bool
 issued_since o tag [] = false
 issued_since o tag (Wrote offset value ∷ before) =
     by_write (issues value tag (runs before) (issued_since o tag before)) false
@@ -123,7 +122,7 @@ issued_since o tag (Completed slot payload arrival ∷ before) =
 -- PxCI has the bit of a slot exactly then.
 abbrev pub IssuedLaw : Type 0
 IssuedLaw =
-    (o : Origin) (list : List Operation) (tag : ℕ) → AreOfWords list → tag < slot_count
+    (o : Opened) (list : List Operation) (tag : ℕ) → AreOfWords list → tag < slot_count
     → word_has (word_at (regs_of o list) 0x138) tag ≡ issued_since o tag list
 
 -- The bits of PxIS that a FIS raises (3.3.5): that of its kind where it has bit I, and TFES where the
@@ -160,7 +159,7 @@ clears value bit before at.InterruptStatus = not (word_has value bit) && before
 clears value bit before register = before
 
 -- A bit was raised since a 1 was written to it and a reset came.
-abbrev pub raised_since : Origin → ℕ → List Operation → Bool
+abbrev pub raised_since : Opened → ℕ → List Operation → Bool
 raised_since o bit [] = false
 raised_since o bit (Wrote offset value ∷ before) =
     by_write (clears value bit (raised_since o bit before)) false (raised_since o bit before)
@@ -183,12 +182,12 @@ raised_since o bit (Completed tag payload arrival ∷ before) =
 -- PxIS has the bit exactly then, but for PCS and PRCS, which follow PxSERR.
 abbrev pub RaisedLaw : Type 0
 RaisedLaw =
-    (o : Origin) (list : List Operation) (bit : ℕ) → AreOfWords list → bit < 32
+    (o : Opened) (list : List Operation) (bit : ℕ) → AreOfWords list → bit < 32
     → word_has (regs_of o list).port.interrupts bit ≡ raised_since o bit list
 
 -- ST is as it was written last.
 abbrev pub RunningLaw : Type 0
-RunningLaw = (o : Origin) (list : List Operation) → (regs_of o list).port.running ≡ runs list
+RunningLaw = (o : Opened) (list : List Operation) → (regs_of o list).port.running ≡ runs list
 
 -- A FIS that ends queued commands: Set Device Bits, with their bits of SActive (3.3.13).
 abbrev pub ends_queued : ℕ → Fis → Bool
@@ -210,7 +209,7 @@ queues value tag running before register = before
 
 -- A queued command was written since ST was cleared and a reset came, and no Set Device Bits FIS has
 -- ended it.
-abbrev pub queued_since : Origin → ℕ → List Operation → Bool
+abbrev pub queued_since : Opened → ℕ → List Operation → Bool
 queued_since o tag [] = false
 queued_since o tag (Wrote offset value ∷ before) =
     by_write (queues value tag (runs before) (queued_since o tag before)) false
@@ -232,7 +231,7 @@ queued_since o tag (Completed slot payload arrival ∷ before) =
 -- PxSACT has the bit of a slot exactly then.
 abbrev pub QueuedLaw : Type 0
 QueuedLaw =
-    (o : Origin) (list : List Operation) (tag : ℕ) → AreOfWords list → tag < slot_count
+    (o : Opened) (list : List Operation) (tag : ℕ) → AreOfWords list → tag < slot_count
     → word_has (word_at (regs_of o list) 0x134) tag ≡ queued_since o tag list
 
 -- The link is up by PxSCTL.DET, as it was written last since a reset (3.3.11).
@@ -300,14 +299,14 @@ link_changed (Completed tag payload arrival ∷ before) = link_changed before
 -- PxSERR has these two bits and no other, and PxIS has PCS and PRCS with them (3.3.5).
 abbrev pub ErrorsLaw : Type 0
 ErrorsLaw =
-    (o : Origin) (list : List Operation)
+    (o : Opened) (list : List Operation)
     → word_at (regs_of o list) 0x130
     ≡ (if link_came_up list then exchange_bit else 0)
     + (if link_changed list then phy_error_bit else 0)
 
 abbrev pub ChangesLaw : Type 0
 ChangesLaw =
-    (o : Origin) (list : List Operation)
+    (o : Opened) (list : List Operation)
     → word_at (regs_of o list) 0x110
     ≡ bit_or (bit_or (regs_of o list).port.interrupts (if link_came_up list then change_bit else 0))
     (if link_changed list then phy_change_bit else 0)
@@ -335,6 +334,6 @@ signature_told (Completed tag payload arrival ∷ before) = signature_told befor
 -- PxSIG has the signature of a disk exactly then.
 abbrev pub SignatureLaw : Type 0
 SignatureLaw =
-    (o : Origin) (list : List Operation)
+    (o : Opened) (list : List Operation)
     → word_at (regs_of o list) 0x124
     ≡ (if signature_told list then disk_signature else no_signature)

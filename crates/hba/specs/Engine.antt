@@ -6,9 +6,8 @@ use Rattle.fis.specs.declared.any.Fis.{Fis}
 use Rattle.fis.specs.declared.any.Fis.TheVariants as fises
 use Rattle.hba_regs.specs.Registers.{ready}
 use Rattle.history.specs.Answers.{expected, payload_of}
-use Rattle.history.specs.History.{Act, Accept, Complete, log}
+use Rattle.history.specs.History.{Act, Accept, Complete}
 use Rattle.history.specs.Readers.{held}
-use Rattle.history.specs.Opening.{Origin}
 use Rattle.host_memory.specs.Access.{Access, Asked, Accessed, OnlyReads}
 use Rattle.port_history.specs.Steps.{Effect}
 use Rattle.slots.specs.Layout.{header_size}
@@ -28,7 +27,7 @@ use Rattle.host_memory.specs.declared.hba_memory.delivery.Place.{Place}
 use Rattle.slots.specs.Table.{is_command}
 use Rattle.host_memory.specs.Memory.{header_by, descriptors_of, moved_by, Gathers, PostsTo, Delivers}
 use Rattle.hba.specs.Showing.{fault_of}
-use Rattle.hba.specs.History.{Operation, Wrote, Powered, Signed, Missed, Controlled, Asserted, Restarted, Unheard, Fetched, Completed, Account, State, AgreesHba, account, effect_after, TellsDenial, IsHeard}
+use Rattle.hba.specs.History.{whole_log, Opened, Operation, Wrote, Powered, Signed, Missed, Controlled, Asserted, Restarted, Unheard, Fetched, Completed, Account, State, AgreesHba, account, effect_after, TellsDenial, IsHeard}
 use Rattle.hba.specs.Ready.{picked, ready_after}
 use Rattle.hba.specs.SoftwareReset.{resets_behind}
 
@@ -50,7 +49,7 @@ place_of regs tag header = record {
 
 -- An act of the drive with the data that were brought, by how they moved, and what it gives; of a
 -- fetch under a tag, or of a completion.
-abbrev pub Acts : Origin → Account → Place → Option ℕ → (List ℕ → Act)
+abbrev pub Acts : Opened → Account → Place → Option ℕ → (List ℕ → Act)
     → (List ℕ → Arrival → Operation) → Moved → Result (List ℕ) Miss → List Access → Operation
     → Type 0
 Acts o a place fetched act operation moved (Err miss) talk done =
@@ -62,7 +61,7 @@ Acts o a place fetched act operation moved (Ok payload) talk done =
     × (done ≡ operation payload arrival)
 
 -- So many bytes are brought; the drive acts; what it gives is delivered.
-abbrev pub ServesSo : Origin → Account → Place → ℕ → Option ℕ → (List ℕ → Act)
+abbrev pub ServesSo : Opened → Account → Place → ℕ → Option ℕ → (List ℕ → Act)
     → (List ℕ → Arrival → Operation) → List Access → Operation → Type 0
 ServesSo o a place n fetched act operation talk done =
     (before later : List Access) × (brought : Result (List ℕ) Miss) × (talk ≡ before ++ later)
@@ -70,10 +69,10 @@ ServesSo o a place n fetched act operation talk done =
     × Acts o a place fetched act operation (moved_by before n) brought later done
 
 -- A slot's command.
-abbrev pub Executes : Origin → Account → Place → ℕ → List ℕ → List Access → Operation → Type 0
+abbrev pub Executes : Opened → Account → Place → ℕ → List ℕ → List Access → Operation → Type 0
 Executes o a place tag fis talk done =
-    ServesSo o a place (payload_of o.tables.config fis) (Some tag) (Accept fis) (Fetched tag fis)
-    talk done
+    ServesSo o a place (payload_of o.origin.tables.config fis) (Some tag) (Accept fis)
+    (Fetched tag fis) talk done
 
 -- The device's first FIS after a reset: ready, with its signature (ACS-3, device signatures).
 abbrev pub signature_fis : Fis
@@ -101,24 +100,24 @@ Controls a tag fis talk done =
     ControlsTo (resets_behind a.registers.in_reset fis) a.registers.in_reset a tag talk done
 
 -- A command, which a device in reset does not take.
-abbrev pub HearsIf : Bool → Origin → Account → Place → ℕ → List ℕ → List Access → Operation → Type 0
+abbrev pub HearsIf : Bool → Opened → Account → Place → ℕ → List ℕ → List Access → Operation → Type 0
 HearsIf true o a place tag fis talk done = (talk ≡ []) × (done ≡ Unheard tag)
 HearsIf false o a place tag fis talk done = Executes o a place tag fis talk done
 
-abbrev pub FetchesIf : Bool → Origin → Account → Place → ℕ → List ℕ
+abbrev pub FetchesIf : Bool → Opened → Account → Place → ℕ → List ℕ
     → List Access → Operation → Type 0
 FetchesIf false o a place tag fis talk done = Controls a tag fis talk done
 FetchesIf true o a place tag fis talk done =
     HearsIf a.registers.in_reset o a place tag fis talk done
 
-abbrev pub FetchesFis : Origin → Account → Place → ℕ → Option (List ℕ)
+abbrev pub FetchesFis : Opened → Account → Place → ℕ → Option (List ℕ)
     → List Access → Operation → Type 0
 FetchesFis o a place tag None talk done =
     (talk ≡ []) × (done ≡ Missed (Some tag) misses.Table)
 FetchesFis o a place tag (Some fis) talk done =
     FetchesIf (is_command fis) o a place tag fis talk done
 
-abbrev pub FetchesFrom : Origin → Account → ℕ → Result Header Miss
+abbrev pub FetchesFrom : Opened → Account → ℕ → Result Header Miss
     → List Access → Operation → Type 0
 FetchesFrom o a tag (Err miss) talk done = (talk ≡ []) × (done ≡ Missed (Some tag) miss)
 FetchesFrom o a tag (Ok header) talk done =
@@ -127,20 +126,20 @@ FetchesFrom o a tag (Ok header) talk done =
     × FetchesFis o a (place_of a.registers tag header) tag fis later done
 
 -- A fetch of the command under a tag.
-abbrev pub Fetches : Origin → Account → ℕ → List Access → Operation → Type 0
+abbrev pub Fetches : Opened → Account → ℕ → List Access → Operation → Type 0
 Fetches o a tag talk done =
     (header : Option (List ℕ)) × (later : List Access)
     × (talk ≡ Asked (header_at a.registers tag) header_size header ∷ later)
     × FetchesFrom o a tag (header_by header) later done
 
-abbrev pub CompletesFrom : Origin → Account → ℕ → ℕ → Result Header Miss → List Access → Operation
+abbrev pub CompletesFrom : Opened → Account → ℕ → ℕ → Result Header Miss → List Access → Operation
     → Type 0
 CompletesFrom o a tag n (Err miss) talk done = (talk ≡ []) × (done ≡ Missed None miss)
 CompletesFrom o a tag n (Ok header) talk done =
     ServesSo o a (place_of a.registers tag header) n None (Complete tag) (Completed tag) talk done
 
 -- A completion of what is held under a tag, which wants so many bytes.
-abbrev pub Completes : Origin → Account → ℕ → ℕ → List Access → Operation → Type 0
+abbrev pub Completes : Opened → Account → ℕ → ℕ → List Access → Operation → Type 0
 Completes o a tag n talk done =
     (header : Option (List ℕ)) × (later : List Access)
     × (talk ≡ Asked (header_at a.registers tag) header_size header ∷ later)
@@ -158,11 +157,11 @@ Signs a talk done =
     × (done ≡ Signed)
 
 -- How many bytes the completion of what is held under a tag wants.
-abbrev pub wanted_after : Origin → Account → ℕ → ℕ
-wanted_after o a tag = expected (held (log o a.acts) tag)
+abbrev pub wanted_after : Opened → Account → ℕ → ℕ
+wanted_after o a tag = expected (held (whole_log o a.acts) tag)
 
 -- A piece of work, by what memory answers.
-abbrev pub IsWork : Work → Origin → Account → List Access → Operation → Type 0
+abbrev pub IsWork : Work → Opened → Account → List Access → Operation → Type 0
 IsWork works.Signature o a talk done = Signs a talk done
 IsWork (works.Fetch tag) o a talk done = Fetches o a tag talk done
 IsWork (works.Complete tag) o a talk done = Completes o a tag (wanted_after o a tag) talk done
@@ -185,9 +184,9 @@ done_of (Fetched tag fis payload arrival) = Some (done_by arrival.missed)
 done_of (Completed tag payload arrival) = Some (done_by arrival.missed)
 
 -- What a piece of work was, after a list of operations that the HBA agreed with, and that this is told of its operation.
-pub record TurnedSo (o : Origin) (list : List Operation) (operation : Operation) (new : State)
-    (Told : Origin → Account → Operation → Type 0)
-    (Did : Origin → Account → List Access → Operation → Type 0) (talk : List Access)
+pub record TurnedSo (o : Opened) (list : List Operation) (operation : Operation) (new : State)
+    (Told : Opened → Account → Operation → Type 0)
+    (Did : Opened → Account → List Access → Operation → Type 0) (talk : List Access)
     : Type 0 where
   pub did : Did o (account o list) talk operation
   pub agrees : AgreesHba new o (operation ∷ list)
@@ -196,17 +195,17 @@ pub record TurnedSo (o : Origin) (list : List Operation) (operation : Operation)
 -- The engine's accesses of the host's memory, and the operation that they are, whatever list the HBA
 -- agreed with.
 abbrev pub TurnsAs : {M : Type 0} → (M → Access → M → Type 0)
-    → (Origin → Account → List Access → Operation → Type 0) → State → M → State → M → Done
-    → (Origin → Account → Operation → Type 0) → Type 0
+    → (Opened → Account → List Access → Operation → Type 0) → State → M → State → M → Done
+    → (Opened → Account → Operation → Type 0) → Type 0
 TurnsAs does Did old before new after done Told =
     (talk : List Access) × (operation : Operation) × Accessed does before talk after
     × (done_of operation ≡ Some done)
-    × ((o : Origin) (list : List Operation) → AgreesHba old o list
+    × ((o : Opened) (list : List Operation) → AgreesHba old o list
     → TurnedSo o list operation new Told Did talk)
 
 -- A piece of work is done, and told.
 abbrev pub TurnsBy : {M : Type 0} → (M → Access → M → Type 0) → Work → State → M → State → M
-    → Done → (Origin → Account → Operation → Type 0) → Type 0
+    → Done → (Opened → Account → Operation → Type 0) → Type 0
 TurnsBy does work old before new after done Told =
     TurnsAs does (IsWork work) old before new after done Told
 
@@ -223,7 +222,7 @@ HearsTo does old before new after turned =
     TurnsBy does turned.work old before new after turned.done (IsHeard turned.heard)
 
 -- So many turns, each with the first work that may be done then.
-unfoldable pub HasRun : Origin → ℕ → List Operation → List Access → List Operation → Type 0
+unfoldable pub HasRun : Opened → ℕ → List Operation → List Access → List Operation → Type 0
 HasRun o zero list talk after = (after ≡ list) × (talk ≡ [])
 HasRun o (suc n) list talk after =
     (middle : List Operation) × (before later : List Access) × (work : Work)
@@ -236,7 +235,7 @@ HasRun o (suc n) list talk after =
 abbrev pub Runs : {M : Type 0} → (M → Access → M → Type 0) → ℕ → State → M → State → M → Type 0
 Runs does n old before new after =
     (talk : List Access) × Accessed does before talk after
-    × ((o : Origin) (list : List Operation) → AgreesHba old o list
+    × ((o : Opened) (list : List Operation) → AgreesHba old o list
     → (later : List Operation) × AgreesHba new o later × HasRun o n list talk later)
 
 -- It has run some turns, and then memory was read at most.

@@ -1,9 +1,9 @@
 -- Lists of operations of an HBA, the newest first: what the host wrote, and what the engine did with
 -- what it read of the host's memory. What they make of the registers and of the drive follows from
--- them and from what the drive started from, alone.
-use Rattle.std.specs.Prelude.{◌≡◌, ◌%◌, ◌^◌, ℕ, List, [], ◌∷◌, length, Option, None, Some, if◌then◌else◌}
+-- them and from what the HBA was opened over, alone.
+use Rattle.std.specs.Prelude.{◌≡◌, ◌%◌, ◌^◌, ℕ, List, [], ◌∷◌, ◌++◌, length, Option, None, Some, if◌then◌else◌}
 use Rattle.sp_cells.specs.Resets.{power_cycle, hardware}
-use Rattle.history.specs.Facts.{facts}
+use Rattle.history.specs.Facts.{Facts, facts}
 use Rattle.history.specs.History.{Act, Accept, Complete, Reset, SoftwareReset, log}
 use Rattle.history.specs.Opening.{Origin}
 use Rattle.drive.specs.State.{DriveState, Agrees}
@@ -37,16 +37,35 @@ pub data Operation : Type 0 where
   Fetched : (tag : ℕ) (fis payload : List ℕ) (arrival : Arrival) → Operation
   Completed : (tag : ℕ) (payload : List ℕ) (arrival : Arrival) → Operation
 
--- What operations have done: the acts of the drive, the newest first, and the registers.
+-- What an HBA was opened over: what its drive started from, and the acts that it had done before, the newest first.
+pub record Opened : Type 0 where
+  pub origin : Origin
+  pub earlier : List Act
+
+-- a drive that had done none
+abbrev pub over_new : Origin → Opened
+over_new origin = record { origin = origin; earlier = [] }
+
+-- All that the drive has done, if it has done these acts since; the events, and what they leave.
+abbrev pub all_acts : Opened → List Act → List Act
+all_acts o acts = acts ++ o.earlier
+
+abbrev pub whole_log : Opened → List Act → List Event
+whole_log o acts = log o.origin (all_acts o acts)
+
+abbrev pub facts_of : Opened → List Act → Facts
+facts_of o acts = facts o.origin (whole_log o acts)
+
+-- What operations have done: the acts of the drive since, the newest first, and the registers.
 pub record Account : Type 0 where
   pub acts : List Act
   pub registers : Registers
 
 -- What an act gives: of the drive, and what of its FISes the host is told.
-abbrev pub drive_effect : Origin → Account → Act → Effect
-drive_effect o a act = effect_by (facts o (log o a.acts)) act
+abbrev pub drive_effect : Opened → Account → Act → Effect
+drive_effect o a act = effect_by (facts_of o a.acts) act
 
-abbrev pub effect_after : Origin → Account → Act → Effect
+abbrev pub effect_after : Opened → Account → Act → Effect
 effect_after o a act = by_blocks act (drive_effect o a act)
 
 -- An act of the drive for the command of a tag.
@@ -56,7 +75,7 @@ acting tag act arrival effect a = record {
   registers = arrived tag effect.fises arrival a.registers;
 }
 
-abbrev pub account_after : Origin → Account → Operation → Account
+abbrev pub account_after : Opened → Account → Operation → Account
 account_after o a (Wrote offset value) = record {
   acts = (if write_resets a.registers offset value then Reset hardware ∷ a.acts else a.acts);
   registers = written_at a.registers offset value;
@@ -83,14 +102,14 @@ account_after o a (Fetched tag fis payload arrival) =
 account_after o a (Completed tag payload arrival) =
     acting tag (Complete tag payload) arrival (effect_after o a (Complete tag payload)) a
 
-abbrev pub account : Origin → List Operation → Account
+abbrev pub account : Opened → List Operation → Account
 account o [] = record { acts = []; registers = reset_registers }
 account o (operation ∷ before) = account_after o (account o before) operation
 
-abbrev pub acts_of : Origin → List Operation → List Act
+abbrev pub acts_of : Opened → List Operation → List Act
 acts_of o list = (account o list).acts
 
-abbrev pub regs_of : Origin → List Operation → Registers
+abbrev pub regs_of : Opened → List Operation → Registers
 regs_of o list = (account o list).registers
 
 -- What contracts see of an HBA.
@@ -103,24 +122,24 @@ pub record State : Type 0 where
 abbrev pub act_count : List Act → ℕ
 act_count acts = length acts % 2 ^ 64
 
--- The drive is that of a list of acts, and they are counted.
-pub record HasActed (hba : State) (o : Origin) (acts : List Act) : Type 0 where
-  pub drive : Agrees hba.drive o acts
+-- The drive is that of a list of acts behind the earlier ones, and these acts are counted.
+pub record HasActed (hba : State) (o : Opened) (acts : List Act) : Type 0 where
+  pub drive : Agrees hba.drive o.origin (all_acts o acts)
   pub count : hba.acts ≡ act_count acts
 
 -- Drive and registers are those of a list of operations.
-pub record AgreesHba (hba : State) (o : Origin) (list : List Operation) : Type 0 where
+pub record AgreesHba (hba : State) (o : Opened) (list : List Operation) : Type 0 where
   pub acted : HasActed hba o (acts_of o list)
   pub registers : hba.registers ≡ regs_of o list
 
 -- What denied the command that an operation fetched, if one did.
-abbrev pub operation_denied : Origin → Account → Operation → Option Why
+abbrev pub operation_denied : Opened → Account → Operation → Option Why
 operation_denied o a (Fetched tag fis payload arrival) =
     (effect_after o a (Accept fis payload)).event.denied
 operation_denied o a _ = None
 
 -- That denial is told.
-abbrev pub TellsDenial : Option Why → Origin → Account → Operation → Type 0
+abbrev pub TellsDenial : Option Why → Opened → Account → Operation → Type 0
 TellsDenial denied o a operation = denied ≡ operation_denied o a operation
 
 -- The command that the drive was given is told: its FIS as it is read, what came with it, and by what its event was
@@ -136,7 +155,7 @@ IsHeardOf None fis payload event = ⊥
 IsHeardOf (Some heard) fis payload event = HeardSo heard fis payload event
 
 -- A fetch of a command tells it, and no other operation tells one.
-abbrev pub IsHeard : Option Heard → Origin → Account → Operation → Type 0
+abbrev pub IsHeard : Option Heard → Opened → Account → Operation → Type 0
 IsHeard heard o a (Fetched tag fis payload arrival) =
     IsHeardOf heard fis payload (effect_after o a (Accept fis payload)).event
 IsHeard heard o a _ = heard ≡ None
@@ -149,4 +168,4 @@ denial_heard (Some heard) = heard.denied
 -- Whatever list the HBA agreed with, it agrees with that list and the operation in front.
 abbrev pub Adds : Operation → State → State → Type 0
 Adds operation old new =
-    (o : Origin) (list : List Operation) → AgreesHba old o list → AgreesHba new o (operation ∷ list)
+    (o : Opened) (list : List Operation) → AgreesHba old o list → AgreesHba new o (operation ∷ list)

@@ -10,10 +10,8 @@ use Rattle.trusted_cmds.specs.declared.command.Command.{Command}
 use Rattle.history.specs.Answers.{errored, answer_fis, moved_fis}
 use Rattle.history.specs.Decisions.{aborted, on_drive, ranges_in_force}
 use Rattle.history.specs.DenialLaws.{Reaches, IsFree}
-use Rattle.history.specs.Facts.{facts}
-use Rattle.history.specs.History.{Accept, Complete, log}
+use Rattle.history.specs.History.{Accept, Complete}
 use Rattle.history.specs.MethodLaws.{IsLookedAt}
-use Rattle.history.specs.Opening.{Origin}
 use Rattle.history.specs.TransferLaws.{IsPermitted}
 use Rattle.port_history.specs.Registers.{register_bit, task_error_bit}
 use Rattle.hba.specs.declared.registers.Registers.{Registers}
@@ -23,7 +21,7 @@ use Rattle.host_memory.specs.declared.hba_memory.reading.Moved.{Moved}
 use Rattle.host_memory.specs.declared.hba_memory.delivery.Place.{Place}
 use Rattle.host_memory.specs.Memory.{Delivers, PostsTo}
 use Rattle.hba.specs.Registers.{port_at, reset_bit}
-use Rattle.hba.specs.History.{Operation, Wrote, Powered, Signed, Missed, Controlled, Asserted, Restarted, Unheard, Fetched, Completed, account, acts_of, regs_of, effect_after}
+use Rattle.hba.specs.History.{facts_of, Opened, Operation, Wrote, Powered, Signed, Missed, Controlled, Asserted, Restarted, Unheard, Fetched, Completed, account, acts_of, regs_of, effect_after}
 
 -- The registers tell the error: PxTFD has it, and PxIS has TFES.
 pub record TellsError (error : ℕ) (before after : Registers) : Type 0 where
@@ -50,7 +48,7 @@ whole = record { is_short = false; is_processed = false; missed = None }
 
 -- A fetched command fails with an error, in registers and memory; where memory misses something
 -- behind the act, it halts all the same.
-pub record FailsSo (o : Origin) (before : List Operation) (tag : ℕ) (fis payload : List ℕ)
+pub record FailsSo (o : Opened) (before : List Operation) (tag : ℕ) (fis payload : List ℕ)
     (error : ℕ) : Type 0 where
   pub tells : TellsError error (regs_of o before)
       (regs_of o (Fetched tag fis payload whole ∷ before))
@@ -65,16 +63,16 @@ pub record FailsSo (o : Origin) (before : List Operation) (tag : ℕ) (fis paylo
 -- Each command that the drive fails does so.
 abbrev pub HostFailureLaw : Type 0
 HostFailureLaw =
-    (o : Origin) (before : List Operation) (tag : ℕ) (fis payload : List ℕ) (error : ℕ)
+    (o : Opened) (before : List Operation) (tag : ℕ) (fis payload : List ℕ) (error : ℕ)
     → (effect_after o (account o before) (Accept fis payload)).event.failed ≡ Some error
     → FailsSo o before tag fis payload error
 
 -- And so each command that reaches data and comes to the policy, of sectors on the drive, where a range denies it.
 abbrev pub HostDenialLaw : Type 0
 HostDenialLaw =
-    (o : Origin) (before : List Operation) (tag : ℕ) (fis payload : List ℕ) (command : Command)
+    (o : Opened) (before : List Operation) (tag : ℕ) (fis payload : List ℕ) (command : Command)
     (slot : Option ℕ) (op : Op) (lba count : ℕ)
-    → let f = facts o (log o (acts_of o before)) in
+    → let f = facts_of o (acts_of o before) in
     IsLookedAt f (Accept fis payload) command slot → Reaches command slot op lba count
     → IsFree f slot → on_drive f lba count ≡ true
     → (IsPermitted (ranges_in_force f) op lba count → ⊥)
@@ -88,7 +86,7 @@ ToldByDeviceBits tag fises before after =
     ⊎ ((setup : Fis) × (fises ≡ setup ∷ moved_fis tag ∷ []) × (after ≡ without before (2 ^ tag)))
 
 -- PxSACT after an operation of the engine.
-abbrev pub ActiveAfter : Origin → List Operation → Operation → Type 0
+abbrev pub ActiveAfter : Opened → List Operation → Operation → Type 0
 ActiveAfter o before (Wrote offset value) = Unit {0}
 ActiveAfter o before Powered = Unit {0}
 ActiveAfter o before (Completed tag payload arrival) =
@@ -102,7 +100,7 @@ ActiveAfter o before operation =
 -- and a power cycle.
 abbrev pub ActiveLaw : Type 0
 ActiveLaw =
-    (o : Origin) (before : List Operation) (operation : Operation) → ActiveAfter o before operation
+    (o : Opened) (before : List Operation) (operation : Operation) → ActiveAfter o before operation
 
 -- The host clears ST (3.3.7), or resets the HBA (3.1.2).
 abbrev pub clears_start : Register → ℕ → Bool
@@ -137,4 +135,4 @@ current_slot (Completed tag payload arrival ∷ before) = current_slot before
 
 -- PxCMD.CCS is that slot (3.3.7; 6.2.2.1 has a driver find the failed command by it).
 abbrev pub CurrentLaw : Type 0
-CurrentLaw = (o : Origin) (list : List Operation) → (regs_of o list).current ≡ current_slot list
+CurrentLaw = (o : Opened) (list : List Operation) → (regs_of o list).current ≡ current_slot list

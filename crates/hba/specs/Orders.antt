@@ -6,7 +6,6 @@ use Rattle.fis.specs.Types.{h2d_length}
 use Rattle.fis.specs.declared.any.Fis.{Fis}
 use Rattle.history.specs.Answers.{errored, payload_of}
 use Rattle.history.specs.History.{Accept}
-use Rattle.history.specs.Opening.{Origin}
 use Rattle.slots.specs.Layout.{header_size, descriptor_size, descriptors_at}
 use Rattle.slots.specs.Header.{entry_count}
 use Rattle.slots.specs.Table.{is_command}
@@ -20,7 +19,7 @@ use Rattle.host_memory.specs.Memory.{is_sound_header, command_table_of, data_at,
 use Rattle.hba.specs.declared.registers.Registers.{Registers}
 use Rattle.hba.specs.declared.work.Work.{Work}
 use Rattle.hba.specs.declared.work.Work.TheVariants as works
-use Rattle.hba.specs.History.{Operation, Missed, Controlled, Asserted, Restarted, Unheard, Fetched, Completed, Account, account, regs_of, effect_after}
+use Rattle.hba.specs.History.{Opened, Operation, Missed, Controlled, Asserted, Restarted, Unheard, Fetched, Completed, Account, account, regs_of, effect_after}
 use Rattle.hba.specs.Ready.{is_ready_after, ready_after, picked}
 use Rattle.hba.specs.SoftwareReset.{resets_behind}
 use Rattle.hba.specs.Engine.{header_at, wanted_after, IsWork}
@@ -70,7 +69,7 @@ rules_of_data tell m header left =
 
 -- A fetch: the header is no memory, or none of a command (CFL, CTBAU; 4.2.2); the FIS is no memory (4.2.3.1); the FIS carries no
 -- command, and sets SRST, or clears it, or neither (10.4.1); the device is in reset; the data.
-abbrev pub fetch_rules : MemoryAnswers → Origin → Account → ℕ → List (Bool × Operation)
+abbrev pub fetch_rules : MemoryAnswers → Opened → Account → ℕ → List (Bool × Operation)
 fetch_rules m o a tag =
     let header = header_in m a tag in
     let fis = fis_in m a tag in
@@ -84,10 +83,10 @@ fetch_rules m o a tag =
     ∷ (is_control, Controlled tag)
     ∷ (was, Unheard tag)
     ∷ rules_of_data (Missed (Some tag)) m (bytes_read header)
-    (payload_of o.tables.config (bytes_read fis))
+    (payload_of o.origin.tables.config (bytes_read fis))
 
 -- A completion, whose command is held: the header, as of a fetch, and the data.
-abbrev pub completion_rules : MemoryAnswers → Origin → Account → ℕ → List (Bool × Operation)
+abbrev pub completion_rules : MemoryAnswers → Opened → Account → ℕ → List (Bool × Operation)
 completion_rules m o a tag =
     let header = header_in m a tag in
     (is_none header, Missed None misses.List)
@@ -105,7 +104,7 @@ EndsFirst (Some first) operation done = done ≡ first
 
 abbrev pub FetchOrder : Type 0
 FetchOrder =
-    (m : MemoryAnswers) (o : Origin) (list : List Operation) (tag : ℕ) (talk : List Access)
+    (m : MemoryAnswers) (o : Opened) (list : List Operation) (tag : ℕ) (talk : List Access)
     (done : Operation) → let a = account o list in
     IsWork (works.Fetch tag) o a talk done → AreAnswered m talk
     → EndsFirst (first_rule (fetch_rules m o a tag))
@@ -113,7 +112,7 @@ FetchOrder =
 
 abbrev pub CompletionOrder : Type 0
 CompletionOrder =
-    (m : MemoryAnswers) (o : Origin) (list : List Operation) (tag : ℕ) (talk : List Access)
+    (m : MemoryAnswers) (o : Opened) (list : List Operation) (tag : ℕ) (talk : List Access)
     (done : Operation) → let a = account o list in
     IsWork (works.Complete tag) o a talk done → AreAnswered m talk
     → EndsFirst (first_rule (completion_rules m o a tag)) (Completed tag) done
@@ -122,7 +121,7 @@ CompletionOrder =
 -- (3.3.7, 6.2.2.1).
 abbrev pub ReadyOrder : Type 0
 ReadyOrder =
-    (o : Origin) (list : List Operation) (choice : ℕ) (work : Work)
+    (o : Opened) (list : List Operation) (choice : ℕ) (work : Work)
     → picked choice (ready_after o list) ≡ Some work → is_ready_after o list work ≡ true
 
 -- Behind an act that fails, its error is told before what memory misses: PxTFD has it, however the FIS arrived (6.2.2.1).
@@ -132,7 +131,7 @@ pub record TellsStatus (error : ℕ) (regs : Registers) : Type 0 where
 
 abbrev pub ErrorOrder : Type 0
 ErrorOrder =
-    (o : Origin) (before : List Operation) (tag : ℕ) (fis payload : List ℕ) (error : ℕ)
+    (o : Opened) (before : List Operation) (tag : ℕ) (fis payload : List ℕ) (error : ℕ)
     (place : Place) (brought : Moved) (talk : List Access) (arrival : Arrival)
     → let effect = effect_after o (account o before) (Accept fis payload) in
     effect.event.failed ≡ Some error → Delivers place brought effect.fises effect.bytes talk arrival

@@ -2,15 +2,13 @@
 use Rattle.std.specs.Prelude.{◌≡◌, ℕ, ◌^◌, ◌%◌, ◌<◌, ◌==◌, ◌&&◌, not, zero, suc, Bool, true, false, List, [], ◌∷◌, ◌++◌, length, slice_index_or, Option, Some, None, is_some, bit_and, if◌then◌else◌}
 use Rattle.fis.specs.Tags.{slot_count}
 use Rattle.hba_regs.specs.Registers.{has_bits}
-use Rattle.history.specs.History.{log}
-use Rattle.history.specs.Opening.{Origin}
 use Rattle.history.specs.Readers.{held}
 use Rattle.drive.specs.Queue.{held_at}
 use Rattle.hba.specs.declared.registers.Registers.{Registers}
 use Rattle.hba.specs.declared.work.Work.{Work}
 use Rattle.hba.specs.declared.work.Work.TheVariants as works
 use Rattle.hba.specs.Registers.{is_up, busy_bits}
-use Rattle.hba.specs.History.{State, Operation, acts_of, regs_of}
+use Rattle.hba.specs.History.{whole_log, Opened, State, Operation, acts_of, regs_of}
 
 -- ST is set, and FRE, since each command posts a FIS (3.3.7: FRE is set before ST); no error halts
 -- the port, and the link is up.
@@ -59,9 +57,9 @@ is_ready regs holds (works.Complete tag) = may_complete regs tag && holds tag
 abbrev pub is_ready_on : State → Work → Bool
 is_ready_on hba work = is_ready hba.registers (λ tag. is_some (held_at hba.drive.queue tag)) work
 
-abbrev pub is_ready_after : Origin → List Operation → Work → Bool
+abbrev pub is_ready_after : Opened → List Operation → Work → Bool
 is_ready_after o list work =
-    is_ready (regs_of o list) (λ tag. is_some (held (log o (acts_of o list)) tag)) work
+    is_ready (regs_of o list) (λ tag. is_some (held (whole_log o (acts_of o list)) tag)) work
 
 -- The work that passes: the signature, then fetches and then completions, the least tag first.
 abbrev pub if_ready : (Work → Bool) → Work → List Work
@@ -83,7 +81,7 @@ ready_by passes =
 abbrev pub ready_on : State → List Work
 ready_on hba = ready_by (is_ready_on hba)
 
-abbrev pub ready_after : Origin → List Operation → List Work
+abbrev pub ready_after : Opened → List Operation → List Work
 ready_after o list = ready_by (is_ready_after o list)
 
 -- The work of a number, modulo how many there are.

@@ -13,10 +13,9 @@ use Rattle.history.specs.Answers.{ready, busy, answer_fis, pio_fis, setup_fis, m
 use Rattle.history.specs.Decisions.{on_drive, ranges_in_force, verdict_on}
 use Rattle.history.specs.DenialLaws.{Reaches}
 use Rattle.history.specs.Events.{HeldCommand, Wrote as WroteSectors, OfQueue, CompletedWrite}
-use Rattle.history.specs.Facts.{Facts, facts}
-use Rattle.history.specs.History.{Act, Accept, Complete, log}
+use Rattle.history.specs.Facts.{Facts}
+use Rattle.history.specs.History.{Act, Accept, Complete}
 use Rattle.history.specs.MethodLaws.{IsLookedAt}
-use Rattle.history.specs.Opening.{Origin}
 use Rattle.history.specs.TransferLaws.{IsPermitted}
 use Rattle.port_history.specs.Steps.{Effect}
 use Rattle.host_memory.specs.Access.{Access}
@@ -25,7 +24,7 @@ use Rattle.host_memory.specs.declared.hba_memory.delivery.Place.{Place}
 use Rattle.host_memory.specs.declared.hba_memory.reading.Moved.{Moved}
 use Rattle.host_memory.specs.Memory.{Delivers}
 use Rattle.host_memory.specs.DeliveryLaws.{GivesAll}
-use Rattle.hba.specs.History.{Operation, Fetched, Completed, account, acts_of, regs_of, effect_after}
+use Rattle.hba.specs.History.{facts_of, Opened, Operation, Fetched, Completed, account, acts_of, regs_of, effect_after}
 use Rattle.hba.specs.BitLaws.{word_has}
 use Rattle.hba.specs.Blocks.{block_size, of_last_block}
 use Rattle.hba.specs.Registers.{busy_bits}
@@ -55,7 +54,7 @@ bytes_served f command = []
 
 -- A fetched command is answered by FISes without an error, of PIO Setup FISes the last, and its bit of PxCI is clear behind
 -- them.
-pub record EndsFetched (o : Origin) (before : List Operation) (tag : ℕ) (fis payload : List ℕ)
+pub record EndsFetched (o : Opened) (before : List Operation) (tag : ℕ) (fis payload : List ℕ)
     (fises : List Fis) (bytes : List ℕ) : Type 0 where
   pub gives : GivesWhole (effect_after o (account o before) (Accept fis payload))
       (map (of_last_block ((length payload + length bytes) / block_size)) fises) bytes
@@ -63,7 +62,7 @@ pub record EndsFetched (o : Origin) (before : List Operation) (tag : ℕ) (fis p
       → word_has (regs_of o (Fetched tag fis payload arrival ∷ before)).port.issued tag ≡ false
 
 -- A completed command is answered by DMA Setup and Set Device Bits, and its bit of PxSACT is clear.
-pub record EndsHeld (o : Origin) (before : List Operation) (tag : ℕ) (payload : List ℕ)
+pub record EndsHeld (o : Opened) (before : List Operation) (tag : ℕ) (payload : List ℕ)
     (setup : Fis) (bytes : List ℕ) : Type 0 where
   pub gives : GivesWhole (effect_after o (account o before) (Complete tag payload))
       (setup ∷ moved_fis tag ∷ []) bytes
@@ -71,14 +70,14 @@ pub record EndsHeld (o : Origin) (before : List Operation) (tag : ℕ) (payload 
       → word_has (regs_of o (Completed tag payload arrival ∷ before)).port.active tag ≡ false
 
 -- What the drive knows after a list of operations.
-abbrev pub facts_behind : Origin → List Operation → Facts
-facts_behind o before = facts o (log o (acts_of o before))
+abbrev pub facts_behind : Opened → List Operation → Facts
+facts_behind o before = facts_of o (acts_of o before)
 
 -- A read that is permitted by the rows in force at its fetch: its sectors, or those of the shadow; and so is a
 -- verification, with no bytes.
 abbrev pub ReadServedLaw : Type 0
 ReadServedLaw =
-    (o : Origin) (before : List Operation) (tag : ℕ) (fis payload : List ℕ) (command : Command)
+    (o : Opened) (before : List Operation) (tag : ℕ) (fis payload : List ℕ) (command : Command)
     (lba count : ℕ)
     → let f = facts_behind o before in
     IsLookedAt f (Accept fis payload) command None → Reaches command None Read lba count
@@ -86,7 +85,7 @@ ReadServedLaw =
     → EndsFetched o before tag fis payload (serving_fises command) (bytes_served f command)
 
 -- A write: the media have what was brought.
-pub record IsWritten (o : Origin) (before : List Operation) (tag : ℕ) (fis payload : List ℕ)
+pub record IsWritten (o : Opened) (before : List Operation) (tag : ℕ) (fis payload : List ℕ)
     (command : Command) (lba : ℕ) : Type 0 where
   pub answered : EndsFetched o before tag fis payload (serving_fises command) []
   pub written : (effect_after o (account o before) (Accept fis payload)).event.deed
@@ -94,7 +93,7 @@ pub record IsWritten (o : Origin) (before : List Operation) (tag : ℕ) (fis pay
 
 abbrev pub WriteServedLaw : Type 0
 WriteServedLaw =
-    (o : Origin) (before : List Operation) (tag : ℕ) (fis payload : List ℕ) (command : Command)
+    (o : Opened) (before : List Operation) (tag : ℕ) (fis payload : List ℕ) (command : Command)
     (lba count : ℕ)
     → let f = facts_behind o before in
     IsLookedAt f (Accept fis payload) command None → Reaches command None Write lba count
@@ -104,7 +103,7 @@ WriteServedLaw =
 -- A held read, which was permitted at its acceptance: its sectors, as they are at its completion.
 abbrev pub HeldReadLaw : Type 0
 HeldReadLaw =
-    (o : Origin) (before : List Operation) (tag : ℕ) (payload : List ℕ) (h : HeldCommand)
+    (o : Opened) (before : List Operation) (tag : ℕ) (payload : List ℕ) (h : HeldCommand)
     (lba count : ℕ)
     → let f = facts_behind o before in
     f.held tag ≡ Some h → h.command ≡ ReadQueued lba count
@@ -112,7 +111,7 @@ HeldReadLaw =
     (read_by f lba count h.verdict)
 
 -- A held write: the media have what was brought.
-pub record IsWrittenHeld (o : Origin) (before : List Operation) (tag : ℕ) (payload : List ℕ)
+pub record IsWrittenHeld (o : Opened) (before : List Operation) (tag : ℕ) (payload : List ℕ)
     (lba count : ℕ) : Type 0 where
   pub completed : EndsHeld o before tag payload (setup_fis false tag (sector_size * count)) []
   pub written : (effect_after o (account o before) (Complete tag payload)).event.deed
@@ -120,7 +119,7 @@ pub record IsWrittenHeld (o : Origin) (before : List Operation) (tag : ℕ) (pay
 
 abbrev pub HeldWriteLaw : Type 0
 HeldWriteLaw =
-    (o : Origin) (before : List Operation) (tag : ℕ) (payload : List ℕ) (h : HeldCommand)
+    (o : Opened) (before : List Operation) (tag : ℕ) (payload : List ℕ) (h : HeldCommand)
     (lba count : ℕ)
     → let f = facts_behind o before in
     f.held tag ≡ Some h → h.command ≡ WriteQueued lba count
@@ -131,7 +130,7 @@ HeldWriteLaw =
 -- the device is busy, in a software reset.
 abbrev pub WaitsLaw : Type 0
 WaitsLaw =
-    (o : Origin) (list : List Operation) (tag : ℕ) → tag < slot_count → ready_after o list ≡ []
+    (o : Opened) (list : List Operation) (tag : ℕ) → tag < slot_count → ready_after o list ≡ []
     → is_working (regs_of o list) ≡ true
     → (bit_and (regs_of o list).port.status busy_bits == 0) ≡ true
     → has_bits (regs_of o list).port.issued (2 ^ tag) ≡ false

@@ -6,9 +6,8 @@ use Rattle.fis.specs.declared.any.Fis.TheVariants as fises
 use Rattle.hba_regs.specs.declared.register.Register.{Register}
 use Rattle.hba_regs.specs.declared.register.Register.TheVariants as at
 use Rattle.hba_regs.specs.Registers.{register_at, has_bits}
-use Rattle.history.specs.Opening.{Origin}
 use Rattle.hba.specs.Registers.{word_at, port_at, is_up, reset_bit, override_bit}
-use Rattle.hba.specs.History.{Operation, Wrote, Powered, Signed, Missed, Controlled, Asserted, Restarted, Unheard, Fetched, Completed, regs_of}
+use Rattle.hba.specs.History.{Opened, Operation, Wrote, Powered, Signed, Missed, Controlled, Asserted, Restarted, Unheard, Fetched, Completed, regs_of}
 use Rattle.hba.specs.BitLaws.{linked, fetch_shows, completion_shows}
 
 -- What a write leaves of a value: at a register of the port by the register, after a reset of the HBA
@@ -71,7 +70,7 @@ task_after value up before register = before
 
 -- The task file after a list of operations. A FIS that carries no command leaves it, but for the one that
 -- ends a software reset (10.4.1), and a device in reset that is sent a command is busy.
-abbrev pub task_of : Origin → List Operation → Task
+abbrev pub task_of : Opened → List Operation → Task
 task_of o [] = awaited_task
 task_of o (Wrote offset value ∷ before) =
     left_by (task_after value (linked before) (task_of o before)) awaited_task (task_of o before)
@@ -94,7 +93,7 @@ task_of o (Completed tag payload arrival ∷ before) =
 -- PxTFD reads so: STS in bits 7 to 0, ERR in bits 15 to 8.
 abbrev pub TaskLaw : Type 0
 TaskLaw =
-    (o : Origin) (list : List Operation)
+    (o : Opened) (list : List Operation)
     → word_at (regs_of o list) 0x120 ≡ (task_of o list).status + 256 * (task_of o list).error
 
 -- PxSCTL.DET, as it was written last since a reset (3.3.11).
@@ -142,7 +141,7 @@ link_speed (Completed tag payload arrival ∷ before) = link_speed before
 -- and SPD is its speed; while it is 4 the link is off (DET 4); else there is no device.
 abbrev pub LinkStatusLaw : Type 0
 LinkStatusLaw =
-    (o : Origin) (list : List Operation)
+    (o : Opened) (list : List Operation)
     → word_at (regs_of o list) 0x128
     ≡ (if detection list == 0 then 0x103 + 16 * link_speed list
     else (if detection list == 4 then 4 else 0))

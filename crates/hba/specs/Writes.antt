@@ -2,12 +2,11 @@
 use Rattle.std.specs.Prelude.{◌≡◌, ◌⊎◌, ℕ, ◌+◌, ◌≤◌, List, [], ◌∷◌, length, Option, Some, None}
 use Rattle.fis.specs.Fis.{IsSpelling}
 use Rattle.fis.specs.declared.any.Fis.{Fis}
-use Rattle.history.specs.Opening.{Origin}
 use Rattle.host_memory.specs.Access.{Access, Asked, Laid}
 use Rattle.host_memory.specs.Memory.{data_at, data_len, offset_of}
 use Rattle.hba.specs.declared.work.Work.{Work}
 use Rattle.hba.specs.declared.work.Work.TheVariants as works
-use Rattle.hba.specs.History.{Operation, Account, account, regs_of}
+use Rattle.hba.specs.History.{Opened, Operation, Account, account, regs_of}
 use Rattle.hba.specs.Engine.{header_at, fises_at, IsWork}
 
 -- PRDBC, the second word of a header at an address (4.2.2).
@@ -45,6 +44,6 @@ header_of_work a (works.Complete tag) = Some (header_at a.registers tag)
 -- anything else.
 abbrev pub WritesLaw : Type 0
 WritesLaw =
-    (work : Work) (o : Origin) (list : List Operation) (talk : List Access) (done : Operation)
+    (work : Work) (o : Opened) (list : List Operation) (talk : List Access) (done : Operation)
     → IsWork work o (account o list) talk done
     → WritesOwn (header_of_work (account o list) work) (fises_at (regs_of o list)) None talk

@@ -51,7 +51,6 @@ fn bring<M: HostMemory>(
 }
 
 impl Hba {
-    ghost use Rattle.history.specs.Opening.{Origin};
     ghost use Rattle.history.specs.History.{Accept, Complete};
     ghost use Rattle.std.specs.Prelude.{slice_index};
     ghost use Rattle.fis.specs.H2d.{h2d_at};
@@ -59,7 +58,7 @@ impl Hba {
     ghost use Rattle.drive.specs.Answers.{fises_in, fises_done};
     ghost use Rattle.drive.specs.Lending.{given_bytes, HaveRun};
     ghost use Rattle.drive.specs.Queue.{held_at};
-    ghost use Rattle.hba.specs.History.{Operation, Completed as CompletedTag, Signed, Missed, AgreesHba, HasActed, Adds, account, acts_of, drive_effect, effect_after, IsHeard};
+    ghost use Rattle.hba.specs.History.{Opened, Operation, Completed as CompletedTag, Signed, Missed, AgreesHba, HasActed, Adds, account, acts_of, drive_effect, effect_after, IsHeard};
     ghost use Rattle.hba.specs.Showing.{fetching, fault_of, arrived};
     ghost use Rattle.hba.specs.Engine.{IsEffect, header_at, fises_at, place_of, done_by, Executes, Fetches, Completes, CompletesFrom, ServesSo, IsWork, TurnsAs, TurnsBy, Signs};
     ghost use Rattle.hba.specs.Ready.{is_ready_on, takes_memory};
@@ -77,21 +76,21 @@ impl Hba {
         requires read { h.now ≡ h2d_at fis.now }
         requires payload { length payload.now
             ≡ payload_of self.old.drive.tper.store.config fis.now }
-        ensures acted { OnOk result ((o : Origin) (list : List Operation)
+        ensures acted { OnOk result ((o : Opened) (list : List Operation)
             → AgreesHba self.old o list
             → HasActed self.new o (Accept fis.now payload.now ∷ acts_of o list)) }
-        ensures effect { IfOk result (λ lent. (o : Origin) (list : List Operation)
+        ensures effect { IfOk result (λ lent. (o : Opened) (list : List Operation)
             → AgreesHba self.old o list
             → IsEffect (drive_effect o (account o list) (Accept fis.now payload.now))
             (fises_in answer.new)
             (given_bytes self.new.drive.media lent answer.new.bytes.items)) }
         ensures there { IfOk result (λ lent.
             HaveRun self.new.drive.tper.store.config.sectors lent) }
-        ensures denied { OnOk result ((o : Origin) (list : List Operation)
+        ensures denied { OnOk result ((o : Opened) (list : List Operation)
             → AgreesHba self.old o list
             → answer.new.denied
             ≡ (effect_after o (account o list) (Accept fis.now payload.now)).event.denied) }
-        ensures rule { OnOk result ((o : Origin) (list : List Operation)
+        ensures rule { OnOk result ((o : Opened) (list : List Operation)
             → AgreesHba self.old o list
             → answer.new.rule
             ≡ (effect_after o (account o list) (Accept fis.now payload.now)).event.rule) }
@@ -117,10 +116,10 @@ impl Hba {
     fn finish(&mut self, tag: Tag, payload: &[u8]) -> Result<Completed, AllocError>
         requires length { length payload.now ≡ expected (held_at self.old.drive.queue tag) }
         requires held { is_some (held_at self.old.drive.queue tag) ≡ true }
-        ensures acted { OnOk result ((o : Origin) (list : List Operation)
+        ensures acted { OnOk result ((o : Opened) (list : List Operation)
             → AgreesHba self.old o list
             → HasActed self.new o (Complete tag payload.now ∷ acts_of o list)) }
-        ensures effect { IfOk result (λ a. (o : Origin) (list : List Operation)
+        ensures effect { IfOk result (λ a. (o : Opened) (list : List Operation)
             → AgreesHba self.old o list
             → IsEffect (effect_after o (account o list) (Complete tag payload.now))
             (fises_done a) a.bytes.items) }

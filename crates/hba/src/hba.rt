@@ -1,6 +1,6 @@
 //! An HBA with one port, and the drive behind it.
 
-ghost use Rattle.std.specs.Prelude.{◌≡◌, List, ◌∷◌, IfOk, if◌then◌else◌};
+ghost use Rattle.std.specs.Prelude.{◌≡◌, List, ◌∷◌, ◌++◌, IfOk, if◌then◌else◌};
 ghost use Rattle.history.specs.Opening.{Origin};
 ghost use Rattle.history.specs.History.{Act, Reset};
 ghost use Rattle.sp_cells.specs.Resets.{hardware};
@@ -17,7 +17,7 @@ use std::marker::Model;
 pub struct Hba {
     pub(crate) alloc: Global,
     pub(crate) drive: Drive,
-    /// How many acts the drive has done, modulo 2^64.
+    /// How many acts the drive has done since, modulo 2^64.
     pub(crate) acts: u64,
     pub(crate) registers: Registers,
     /// Room for what comes with the next command.
@@ -38,8 +38,8 @@ impl Model for Hba {
 
 /// Resets the drive, where it is to be.
 fn reset_if(resets: bool, drive: &mut Drive)
-    ensures { (o : Origin) (acts : List Act) → Agrees drive.old o acts
-        → Agrees drive.new o (if resets then Reset hardware ∷ acts else acts) }
+    ensures { (o : Origin) (acts earlier : List Act) → Agrees drive.old o (acts ++ earlier)
+        → Agrees drive.new o ((if resets then Reset hardware ∷ acts else acts) ++ earlier) }
 {
     if resets {
         drive.reset(ResetKind::Hardware);
@@ -66,11 +66,11 @@ fn count_if(acts: bool, count: u64) -> u64
 impl Hba {
     ghost use Rattle.std.specs.Prelude.{[]};
     ghost use Rattle.hba.specs.Registers.{word_at, line};
-    ghost use Rattle.hba.specs.History.{Operation, Wrote, Powered, AgreesHba, Adds, acts_of, regs_of, act_count};
+    ghost use Rattle.hba.specs.History.{Opened, Operation, Wrote, Powered, AgreesHba, Adds, acts_of, regs_of, act_count};
 
-    /// An HBA after its reset, over a drive that has done no act.
+    /// An HBA after its reset, over a drive that is new, or that has done acts before: it counts those from now on.
     pub fn new(alloc: Global, drive: Drive) -> Hba
-        ensures { (o : Origin) → Agrees drive o [] → AgreesHba result o [] }
+        ensures { (o : Opened) → Agrees drive o.origin o.earlier → AgreesHba result o [] }
     {
         Hba {
             alloc,
@@ -99,7 +99,7 @@ impl Hba {
     /// The word that the host reads at an offset: 0 where no register stands. Nothing changes.
     pub fn read(&self, offset: u32) -> u32
         ensures stands { result ≡ word_at self.now.registers offset }
-        ensures told { (o : Origin) (list : List Operation) → AgreesHba self.now o list
+        ensures told { (o : Opened) (list : List Operation) → AgreesHba self.now o list
             → result ≡ word_at (regs_of o list) offset }
     {
         self.registers.read(offset)
@@ -108,7 +108,7 @@ impl Hba {
     /// The interrupt line.
     pub fn interrupt(&self) -> bool
         ensures stands { result ≡ line self.now.registers }
-        ensures told { (o : Origin) (list : List Operation) → AgreesHba self.now o list
+        ensures told { (o : Opened) (list : List Operation) → AgreesHba self.now o list
             → result ≡ line (regs_of o list) }
     {
         self.registers.line()
@@ -121,10 +121,10 @@ impl Hba {
         &self.drive
     }
 
-    /// How many acts the drive has done, modulo 2^64: fetched commands, completions and resets.
+    /// How many acts the drive has done since the HBA was made, modulo 2^64: fetched commands, completions and resets.
     pub fn acts(&self) -> u64
         ensures stands { result ≡ self.now.acts }
-        ensures told { (o : Origin) (list : List Operation) → AgreesHba self.now o list
+        ensures told { (o : Opened) (list : List Operation) → AgreesHba self.now o list
             → result ≡ act_count (acts_of o list) }
     {
         self.acts

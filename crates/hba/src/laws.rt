@@ -10,7 +10,7 @@ ghost use Rattle.hba.specs.Service.{ReadServedLaw, WriteServedLaw, HeldReadLaw, 
 ghost use Rattle.hba.specs.TaskLaws.{TaskLaw, LinkStatusLaw};
 ghost use Rattle.hba.specs.Writes.{WritesLaw};
 
-/// Laws of the definitions, over every origin and every list of operations.
+/// Laws of the definitions, over every drive that an HBA is opened over, and every list of operations.
 ///
 /// `failed`: where the drive fails a fetched command, PxTFD tells the error, PxIS has TFES, PxCI and PxSACT keep their
 /// bits, the port is halted, and nothing reaches the host's memory but the FIS of the error. `denied`: so it is for each
@@ -88,8 +88,8 @@ pub fn laws_of_access()
     ensures own { OwnBitsLaw }
 {}
 
-/// Laws of service, over every origin and every list of operations: a command that did its work, where memory missed nothing
-/// and the PRDT has room.
+/// Laws of service, over every drive that an HBA is opened over, and every list of operations: a command that did its work,
+/// where memory missed nothing and the PRDT has room.
 ///
 /// `read`, `written`: a transfer by DMA or by PIO, or a verification, that the rows in force at its fetch permit. Its data
 /// lie over the blocks that its table names, or the media have what was brought; PRDBC counts what moved, its FISes are
@@ -105,7 +105,7 @@ pub fn laws_of_service()
     ensures rests { WaitsLaw }
 {}
 
-/// The law of orders, over every origin, every list of operations and every memory: of several things that keep a command
+/// The law of orders, over every such drive, every list of operations and every memory: of several things that keep a command
 /// from its act, the first of one list is told.
 ///
 /// `ready`: only what is ready is done. `fetched`, `completed`: the operation is that of the first rule that applies, of the

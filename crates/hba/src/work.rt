@@ -1,7 +1,6 @@
 //! What the engine may do (AHCI 1.3.1, 5.3 and 5.5.1).
 
 ghost use Rattle.std.specs.Prelude.{◌≡◌, ◌<◌, ◌≤◌, ◌+◌, ◌^◌, ◌++◌, List, [], None, MatchOption, length};
-ghost use Rattle.history.specs.Opening.{Origin};
 ghost use Rattle.hba_regs.specs.Registers.{has_bits};
 ghost use Rattle.hba.specs.Ready.{IsLeast, picked};
 ghost use Rattle.hba.specs.Showing.{fault_of};
@@ -132,14 +131,14 @@ fn least_tag(tags: u32) -> Option<Tag>
 }
 
 impl Hba {
-    ghost use Rattle.hba.specs.History.{Operation, AgreesHba};
+    ghost use Rattle.hba.specs.History.{Opened, Operation, AgreesHba};
     ghost use Rattle.hba.specs.Ready.{is_ready_on, is_ready_after, if_ready, completable, fetches, completions, ready_on, ready_after, picked};
     ghost use Rattle.fis.specs.Tags.{slot_count};
 
     /// Whether the engine may do a piece of work.
     pub fn is_ready(&self, work: &Work) -> bool
         ensures stands { result ≡ is_ready_on self.now work.now }
-        ensures told { (o : Origin) (list : List Operation) → AgreesHba self.now o list
+        ensures told { (o : Opened) (list : List Operation) → AgreesHba self.now o list
             → result ≡ is_ready_after o list work.now }
     {
         self.may(work)
@@ -207,7 +206,7 @@ impl Hba {
     #[tactic(auto, using(crate::proofs::Works::ready_same))]
     pub fn ready(&self) -> ArrayVec<Work, 65>
         ensures stands { result.items ≡ ready_on self.now }
-        ensures told { (o : Origin) (list : List Operation) → AgreesHba self.now o list
+        ensures told { (o : Opened) (list : List Operation) → AgreesHba self.now o list
             → result.items ≡ ready_after o list }
     {
         let works = self.works();

@@ -12,7 +12,7 @@ use Rattle.sp_cells.specs.Resets.{power_cycle, hardware}
 use Rattle.reasons.specs.declared.explained.onset.Cause.{Cause}
 use Rattle.reasons.specs.declared.explained.onset.Cause.TheVariants.{ResetBy}
 use Rattle.hba.specs.declared.work.Heard.{Heard}
-use Rattle.hba.specs.History.{State, Operation, Wrote, Powered, AgreesHba, IsHeard, account, acts_of}
+use Rattle.hba.specs.History.{over_new, Opened, State, Operation, Wrote, Powered, AgreesHba, IsHeard, account, acts_of}
 
 abbrev pub source_at : ℕ → ℕ → Source
 source_at number client = record { line = number; client = client }
@@ -24,12 +24,12 @@ pub record ExplainsActs (source : Source) (o : Origin) (past : List Sourced) (ac
   pub recounts : RecountsAll kept o (attributed source acts past)
   pub reasons : text ≡ told_reasons o past acts
 
--- an operation of a controller so, whatever operations it agreed with
+-- an operation of a controller so, over a drive that had done no act, whatever operations it agreed with
 abbrev pub ExplainsSo : Source → KeptReasons → KeptReasons → State → Operation → List ℕ → Type 0
 ExplainsSo source old new hba operation reasons =
-    (o : Origin) (list : List Operation) (past : List Sourced) → AgreesHba hba o list
-    → bare_acts past ≡ acts_of o list → RecountsAll old o past
-    → ExplainsActs source o past (acts_of o (operation ∷ list)) new reasons
+    (o : Origin) (list : List Operation) (past : List Sourced) → AgreesHba hba (over_new o) list
+    → bare_acts past ≡ acts_of (over_new o) list → RecountsAll old o past
+    → ExplainsActs source o past (acts_of (over_new o) (operation ∷ list)) new reasons
 
 -- the same, if reasons are told
 abbrev pub ExplainsOperation : Source → Option KeptReasons → Option KeptReasons → State → Operation
@@ -42,7 +42,7 @@ ExplainsOperation source (Some old) (Some new) hba operation reasons =
 -- what an operation of a controller gave to its drive is told
 abbrev pub HearsOperation : State → State → Option Heard → Operation → Type 0
 HearsOperation old new heard operation =
-    (o : Origin) (list : List Operation) → AgreesHba old o list
+    (o : Opened) (list : List Operation) → AgreesHba old o list
     → AgreesHba new o (operation ∷ list) × IsHeard heard o (account o list) operation
 
 -- what the host does by itself resets the drive in this way, if it does

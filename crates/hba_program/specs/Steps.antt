@@ -6,7 +6,7 @@ use Rattle.shadow_mbr.specs.Stored.{sector_at}
 use Rattle.drive_scripts.specs.Kept.{KeptReasons}
 use Rattle.history.specs.Opening.{Origin}
 use Rattle.drive.specs.State.{DriveState, Agrees}
-use Rattle.hba.specs.History.{State, Operation, Wrote, Powered, Adds, AgreesHba, denial_heard}
+use Rattle.hba.specs.History.{over_new, State, Operation, Wrote, Powered, Adds, AgreesHba, denial_heard}
 use Rattle.hba.specs.Registers.{word_at, line}
 use Rattle.hba.specs.Ready.{ready_on, picked}
 use Rattle.hba.specs.Engine.{HearsTo}
@@ -247,7 +247,7 @@ pub record DoesAll {R W : Type 0} (remaining : R → Option (List ℕ)) (content
 pub record StartsServing {R W : Type 0} (remaining : R → Option (List ℕ))
     (contents : W → Option (List ℕ)) (explains : Bool) (drive : DriveState)
     (input written : Option (List ℕ)) (first : Stand R W) : Type 0 where
-  pub hba : (o : Origin) → Agrees drive o [] → AgreesHba first.hba o []
+  pub hba : (o : Origin) → Agrees drive o [] → AgreesHba first.hba (over_new o) []
   pub kept : StartsTelling explains first.kept drive
   pub denials : first.denials ≡ []
   pub left : left_of remaining first.wire ≡ input

@@ -1,7 +1,6 @@
 -- What a look at a controller shows.
 use Rattle.std.specs.Prelude.{ℕ, List}
-use Rattle.history.specs.Opening.{Origin}
-use Rattle.hba.specs.History.{Operation, acts_of, regs_of}
+use Rattle.hba.specs.History.{all_acts, Opened, Operation, acts_of, regs_of}
 use Rattle.hba.specs.Registers.{word_at, line}
 use Rattle.hba.specs.declared.registers.Registers.{Registers}
 use Rattle.pictures.specs.Samples.{drive_sample}
@@ -25,9 +24,9 @@ words_shown regs = record {
 }
 
 -- a controller after these operations: its drive after their acts, its registers, and the interrupt line
-abbrev pub look_after : Origin → List Operation → Look
+abbrev pub look_after : Opened → List Operation → Look
 look_after o list = record {
-  drive = drive_sample o (acts_of o list);
+  drive = drive_sample o.origin (all_acts o (acts_of o list));
   words = words_shown (regs_of o list);
   line = line (regs_of o list);
 }
@@ -38,5 +37,5 @@ pub record Shown : Type 0 where
   pub look : Look
 
 -- behind a line of this number, by the operations up to it
-abbrev pub moment_after : Origin → ℕ → List Operation → Shown
+abbrev pub moment_after : Opened → ℕ → List Operation → Shown
 moment_after o number list = record { number = number; look = look_after o list }

@@ -15,8 +15,7 @@ pub struct Look {
 
 impl Look {
     ghost use Rattle.std.specs.Prelude.{◌≡◌, IfOk, List};
-    ghost use Rattle.history.specs.Opening.{Origin};
-    ghost use Rattle.hba.specs.History.{Operation, AgreesHba};
+    ghost use Rattle.hba.specs.History.{Opened, Operation, AgreesHba};
     ghost use Rattle.hba_waves.specs.Looks.{look_after};
 
     /// A look at a controller.
@@ -25,7 +24,7 @@ impl Look {
     ///
     /// An allocation was refused.
     pub fn of(alloc: Global, hba: &Hba) -> Result<Look, AllocError>
-        ensures { IfOk result (λ look. (o : Origin) (list : List Operation)
+        ensures { IfOk result (λ look. (o : Opened) (list : List Operation)
             → AgreesHba hba.now o list → look ≡ look_after o list) }
     {
         let drive = Sample::of_drive(alloc, hba.drive())?;

@@ -1,8 +1,7 @@
 //! A dump that is written as a controller serves.
 
 ghost use Rattle.std.specs.Prelude.{◌≡◌, ◌∷◌, [], List, OnOk};
-ghost use Rattle.history.specs.Opening.{Origin};
-ghost use Rattle.hba.specs.History.{Operation, AgreesHba};
+ghost use Rattle.hba.specs.History.{Opened, Operation, AgreesHba};
 ghost use Rattle.hba_waves.specs.Looks.{moment_after};
 ghost use Rattle.hba_waves.specs.Written.{GoesOnIf};
 
@@ -95,7 +94,7 @@ impl<D: Write + Drop> Dump<D> {
     ///
     /// An allocation was refused, or the writer failed.
     pub fn show(&mut self, time: u64, hba: &Hba) -> Result<(), DumpError>
-        ensures { OnOk result ((o : Origin) (list : List Operation) → AgreesHba hba.now o list
+        ensures { OnOk result ((o : Opened) (list : List Operation) → AgreesHba hba.now o list
             → GoesOn D.contents (moment_after o time list ∷ []) self.old self.new) }
     {
         let look = Look::of(self.alloc, hba)?;
@@ -114,7 +113,7 @@ pub fn show_if<D: Write + Drop>(
     time: u64,
     hba: &Hba,
 ) -> Result<(), DumpError>
-    ensures { OnOk result ((o : Origin) (list : List Operation) → AgreesHba hba.now o list
+    ensures { OnOk result ((o : Opened) (list : List Operation) → AgreesHba hba.now o list
         → GoesOnIf D.contents (moment_after o time list ∷ []) dump.old dump.new) }
 {
     match dump {

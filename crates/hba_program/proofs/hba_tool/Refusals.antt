@@ -1,5 +1,5 @@
 -- What is told of operations: by the acts that they add, one or none.
-use Rattle.std.proofs.Common.{◌≡◌, ◌∙◌, ℕ, ◌-◌, ◌%◌, ◌^◌, Bool, true, false, List, [], ◌∷◌, take, length, refl, sym, ap, subst, arith, Option, Some, None, true≢false}
+use Rattle.std.proofs.Common.{◌≡◌, ◌∙◌, ℕ, ◌-◌, ◌%◌, ◌^◌, Bool, true, false, List, [], ◌∷◌, take, length, append-nil, refl, sym, ap, subst, arith, Option, Some, None, true≢false}
 use Rattle.std.specs.Prelude.{suc, is_some, if◌then◌else◌}
 use Rattle.trusted_cmds.specs.declared.command.Command.{Command}
 use Rattle.trusted_cmds.specs.declared.command.Command.TheVariants.{WriteQueued}
@@ -19,9 +19,13 @@ use Rattle.drive_scripts.specs.Explanations.{no_objection, objection_in, objecti
 use Rattle.drive_scripts.proofs.Added.{attributed_none, attributed_one, bare_none, bare_one, reasons_of_none, reasons_of_reset}
 use Rattle.hba.specs.declared.work.Heard.{Heard}
 use Rattle.hba.specs.Registers.{write_resets}
-use Rattle.hba.specs.History.{State, Operation, Wrote, Powered, Signed, Missed, Controlled, Asserted, Restarted, Unheard, Fetched, Completed, HasActed, AgreesHba, Adds, HeardSo, account, acts_of, act_count}
+use Rattle.hba.specs.History.{over_new, State, Operation, Wrote, Powered, Signed, Missed, Controlled, Asserted, Restarted, Unheard, Fetched, Completed, HasActed, AgreesHba, Adds, HeardSo, account, acts_of, act_count}
 use Rattle.hba.specs.Engine.{done_of}
 use Rattle.hba_program.specs.Explained.{ExplainsActs, ExplainsSo, HearsOperation, IsOwn}
+
+-- where nothing was done before, all acts are these
+drive_of_new : (hba : State) (o : Origin) (acts : List Act) → HasActed hba (over_new o) acts → Agrees hba.drive o acts
+drive_of_new hba o acts acted = subst (λ (all : List Act). Agrees hba.drive o all) (append-nil acts) acted.drive
 
 -- an act more is counted
 count_grows : (n : ℕ) → suc n % 2 ^ 64 ≡ n % 2 ^ 64 → ⊥
@@ -47,15 +51,15 @@ noted_none source o past kept recounts = record {
 
 pub noted : (source : Source) (o : Origin) (past : List Sourced) (act : Option Act) (kept : KeptReasons) (hba : State)
     (count : ℕ) → (hba.acts ≡ count → ⊥) → told_reasons o past (with_act act (bare_acts past)) ≡ []
-    → HasActed hba o (with_act act (bare_acts past)) → count ≡ act_count (bare_acts past)
+    → HasActed hba (over_new o) (with_act act (bare_acts past)) → count ≡ act_count (bare_acts past)
     → ((a : Act) → act ≡ Some a → Agrees hba.drive o (a ∷ bare_acts past) → RecountsAll kept o (from_source source a ∷ past))
     → ExplainsActs source o past (with_act act (bare_acts past)) kept []
 noted source o past None kept hba count differs silent acted is recounts = absurd (differs (acted.count ∙ sym is))
 noted source o past (Some act) kept hba count differs silent acted is recounts =
-    noted_act source o past act kept (recounts act refl acted.drive) silent
+    noted_act source o past act kept (recounts act refl (drive_of_new hba o (act ∷ bare_acts past) acted)) silent
 
 pub unnoted : (source : Source) (o : Origin) (past : List Sourced) (act : Option Act) (kept : KeptReasons) (hba : State)
-    (count : ℕ) → hba.acts ≡ count → HasActed hba o (with_act act (bare_acts past)) → count ≡ act_count (bare_acts past)
+    (count : ℕ) → hba.acts ≡ count → HasActed hba (over_new o) (with_act act (bare_acts past)) → count ≡ act_count (bare_acts past)
     → RecountsAll kept o past → ExplainsActs source o past (with_act act (bare_acts past)) kept []
 unnoted source o past None kept hba count same acted is recounts = noted_none source o past kept recounts
 unnoted source o past (Some act) kept hba count same acted is recounts =
@@ -103,17 +107,17 @@ abbrev pub NotesAct : Source → Cause → KeptReasons → KeptReasons → State
 NotesAct source cause old new hba count =
     (o : Origin) (past : List Sourced) (act : Option Act) → (is_some act ≡ true → cause_at act ≡ cause)
     → told_reasons o past (with_act act (bare_acts past)) ≡ []
-    → HasActed hba o (with_act act (bare_acts past)) → count ≡ act_count (bare_acts past) → RecountsAll old o past
+    → HasActed hba (over_new o) (with_act act (bare_acts past)) → count ≡ act_count (bare_acts past) → RecountsAll old o past
     → ExplainsActs source o past (with_act act (bare_acts past)) new []
 
 by_act : (source : Source) (cause : Cause) (old new : KeptReasons) (before after : State) (count : ℕ) (o : Origin)
     (list : List Operation) (past : List Sourced) (act : Option Act) → NotesAct source cause old new after count
-    → count ≡ before.acts → AgreesHba before o list → bare_acts past ≡ acts_of o list → RecountsAll old o past
+    → count ≡ before.acts → AgreesHba before (over_new o) list → bare_acts past ≡ acts_of (over_new o) list → RecountsAll old o past
     → (is_some act ≡ true → cause_at act ≡ cause) → told_reasons o past (with_act act (bare_acts past)) ≡ []
-    → HasActed after o (with_act act (acts_of o list)) → ExplainsActs source o past (with_act act (acts_of o list)) new []
+    → HasActed after (over_new o) (with_act act (acts_of (over_new o) list)) → ExplainsActs source o past (with_act act (acts_of (over_new o) list)) new []
 by_act source cause old new before after count o list past act notes is agrees bare kept by silent acted =
     subst (λ (acts : List Act). ExplainsActs source o past (with_act act acts) new []) bare
-    (notes o past act by silent (subst (λ (acts : List Act). HasActed after o (with_act act acts)) (sym bare) acted)
+    (notes o past act by silent (subst (λ (acts : List Act). HasActed after (over_new o) (with_act act acts)) (sym bare) acted)
     (is ∙ agrees.acted.count ∙ ap act_count (sym bare)) kept)
 
 no_some : {A B : Type 0} (x : A) → Some x ≡ None → B
@@ -130,34 +134,36 @@ pub explained_command : (source : Source) (old new : KeptReasons) (before after 
     → HearsOperation before after (Some heard) operation → ExplainsSo source old new before operation text
 explained_command source old new before after (Fetched tag fis payload arrival) heard text tells hears =
     λ o list past agrees bare kept.
-    let h = hears o list agrees in
+    let h = hears (over_new o) list agrees in
     subst (λ (acts : List Act). ExplainsActs source o past (Accept fis payload ∷ acts) new text) bare
     (tells o past fis payload
-    (subst (λ (acts : List Act). HeardSo heard fis payload (event o (log o acts) (Accept fis payload))) (sym bare) h.1)
-    (subst (λ (acts : List Act). Agrees after.drive o (Accept fis payload ∷ acts)) (sym bare) h.0.acted.drive) kept)
+    (subst (λ (acts : List Act). HeardSo heard fis payload (event o (log o acts) (Accept fis payload)))
+    (append-nil (acts_of (over_new o) list) ∙ sym bare) h.1)
+    (subst (λ (acts : List Act). Agrees after.drive o (Accept fis payload ∷ acts)) (sym bare)
+    (drive_of_new after o (Accept fis payload ∷ acts_of (over_new o) list) h.0.acted)) kept)
 explained_command source old new before after (Wrote offset value) heard text tells hears =
-    λ o list past agrees bare kept. no_some heard (hears o list agrees).1
+    λ o list past agrees bare kept. no_some heard (hears (over_new o) list agrees).1
 explained_command source old new before after Powered heard text tells hears =
-    λ o list past agrees bare kept. no_some heard (hears o list agrees).1
+    λ o list past agrees bare kept. no_some heard (hears (over_new o) list agrees).1
 explained_command source old new before after Signed heard text tells hears =
-    λ o list past agrees bare kept. no_some heard (hears o list agrees).1
+    λ o list past agrees bare kept. no_some heard (hears (over_new o) list agrees).1
 explained_command source old new before after (Missed fetched miss) heard text tells hears =
-    λ o list past agrees bare kept. no_some heard (hears o list agrees).1
+    λ o list past agrees bare kept. no_some heard (hears (over_new o) list agrees).1
 explained_command source old new before after (Controlled tag) heard text tells hears =
-    λ o list past agrees bare kept. no_some heard (hears o list agrees).1
+    λ o list past agrees bare kept. no_some heard (hears (over_new o) list agrees).1
 explained_command source old new before after (Asserted tag) heard text tells hears =
-    λ o list past agrees bare kept. no_some heard (hears o list agrees).1
+    λ o list past agrees bare kept. no_some heard (hears (over_new o) list agrees).1
 explained_command source old new before after (Restarted tag) heard text tells hears =
-    λ o list past agrees bare kept. no_some heard (hears o list agrees).1
+    λ o list past agrees bare kept. no_some heard (hears (over_new o) list agrees).1
 explained_command source old new before after (Unheard tag) heard text tells hears =
-    λ o list past agrees bare kept. no_some heard (hears o list agrees).1
+    λ o list past agrees bare kept. no_some heard (hears (over_new o) list agrees).1
 explained_command source old new before after (Completed tag payload arrival) heard text tells hears =
-    λ o list past agrees bare kept. no_some heard (hears o list agrees).1
+    λ o list past agrees bare kept. no_some heard (hears (over_new o) list agrees).1
 
 by_none : (source : Source) (old new : KeptReasons) (before after : State) (count : ℕ) (o : Origin)
     (list : List Operation) (past : List Sourced) → NotesAct source NoCause old new after count
-    → count ≡ before.acts → AgreesHba before o list → bare_acts past ≡ acts_of o list → RecountsAll old o past
-    → HasActed after o (acts_of o list) → ExplainsActs source o past (acts_of o list) new []
+    → count ≡ before.acts → AgreesHba before (over_new o) list → bare_acts past ≡ acts_of (over_new o) list → RecountsAll old o past
+    → HasActed after (over_new o) (acts_of (over_new o) list) → ExplainsActs source o past (acts_of (over_new o) list) new []
 by_none source old new before after count o list past notes is agrees bare kept acted =
     by_act source NoCause old new before after count o list past None notes is agrees bare kept (none_by NoCause)
     (reasons_of_none o past) acted
@@ -169,29 +175,29 @@ explained_other source old new before after (Wrote offset value) count notes is 
     absurd (true≢false (sym works))
 explained_other source old new before after Powered count notes is works hears = absurd (true≢false (sym works))
 explained_other source old new before after Signed count notes is works hears = λ o list past agrees bare kept.
-    by_none source old new before after count o list past notes is agrees bare kept (hears o list agrees).0.acted
+    by_none source old new before after count o list past notes is agrees bare kept (hears (over_new o) list agrees).0.acted
 explained_other source old new before after (Missed fetched miss) count notes is works hears = λ o list past agrees bare kept.
-    by_none source old new before after count o list past notes is agrees bare kept (hears o list agrees).0.acted
+    by_none source old new before after count o list past notes is agrees bare kept (hears (over_new o) list agrees).0.acted
 explained_other source old new before after (Controlled tag) count notes is works hears = λ o list past agrees bare kept.
-    by_none source old new before after count o list past notes is agrees bare kept (hears o list agrees).0.acted
+    by_none source old new before after count o list past notes is agrees bare kept (hears (over_new o) list agrees).0.acted
 explained_other source old new before after (Asserted tag) count notes is works hears = λ o list past agrees bare kept.
-    by_none source old new before after count o list past notes is agrees bare kept (hears o list agrees).0.acted
+    by_none source old new before after count o list past notes is agrees bare kept (hears (over_new o) list agrees).0.acted
 explained_other source old new before after (Unheard tag) count notes is works hears = λ o list past agrees bare kept.
-    by_none source old new before after count o list past notes is agrees bare kept (hears o list agrees).0.acted
+    by_none source old new before after count o list past notes is agrees bare kept (hears (over_new o) list agrees).0.acted
 explained_other source old new before after (Restarted tag) count notes is works hears = λ o list past agrees bare kept.
     by_act source NoCause old new before after count o list past (Some SoftwareReset) notes is agrees bare kept (λ e. refl)
-    (reasons_of_restart o past) (hears o list agrees).0.acted
+    (reasons_of_restart o past) (hears (over_new o) list agrees).0.acted
 explained_other source old new before after (Completed tag payload arrival) count notes is works hears = λ o list past agrees bare kept.
     by_act source NoCause old new before after count o list past (Some (Complete tag payload)) notes is agrees bare kept (λ e. refl)
-    (reasons_of_completion o past tag payload) (hears o list agrees).0.acted
+    (reasons_of_completion o past tag payload) (hears (over_new o) list agrees).0.acted
 explained_other source old new before after (Fetched tag fis payload arrival) count notes is works hears = λ o list past agrees bare kept.
-    absurd (hears o list agrees).1
+    absurd (hears (over_new o) list agrees).1
 
 by_reset : (b : Bool) (source : Source) (old new : KeptReasons) (before after : State) (count : ℕ) (o : Origin)
     (list : List Operation) (past : List Sourced) → NotesAct source (ResetBy hardware) old new after count
-    → count ≡ before.acts → AgreesHba before o list → bare_acts past ≡ acts_of o list → RecountsAll old o past
-    → HasActed after o (if b then Reset hardware ∷ acts_of o list else acts_of o list)
-    → ExplainsActs source o past (if b then Reset hardware ∷ acts_of o list else acts_of o list) new []
+    → count ≡ before.acts → AgreesHba before (over_new o) list → bare_acts past ≡ acts_of (over_new o) list → RecountsAll old o past
+    → HasActed after (over_new o) (if b then Reset hardware ∷ acts_of (over_new o) list else acts_of (over_new o) list)
+    → ExplainsActs source o past (if b then Reset hardware ∷ acts_of (over_new o) list else acts_of (over_new o) list) new []
 by_reset true source old new before after count o list past notes is agrees bare kept acted =
     by_act source (ResetBy hardware) old new before after count o list past (Some (Reset hardware)) notes is agrees bare kept (λ e. refl)
     (reasons_of_reset o past hardware) acted
@@ -203,12 +209,12 @@ pub explained_own : (source : Source) (cause : Cause) (old new : KeptReasons) (b
     (operation : Operation) → NotesAct source cause old new after count → count ≡ before.acts → IsOwn operation cause
     → Adds operation before after → ExplainsSo source old new before operation []
 explained_own source cause old new before after count (Wrote offset value) notes is by adds = λ o list past agrees bare kept.
-    by_reset (write_resets (account o list).registers offset value) source old new before after count o list past
-    (subst (λ (c : Cause). NotesAct source c old new after count) by notes) is agrees bare kept (adds o list agrees).acted
+    by_reset (write_resets (account (over_new o) list).registers offset value) source old new before after count o list past
+    (subst (λ (c : Cause). NotesAct source c old new after count) by notes) is agrees bare kept (adds (over_new o) list agrees).acted
 explained_own source cause old new before after count Powered notes is by adds = λ o list past agrees bare kept.
     by_act source (ResetBy power_cycle) old new before after count o list past (Some (Reset power_cycle))
     (subst (λ (c : Cause). NotesAct source c old new after count) by notes) is agrees bare kept (λ e. refl)
-    (reasons_of_reset o past power_cycle) (adds o list agrees).acted
+    (reasons_of_reset o past power_cycle) (adds (over_new o) list agrees).acted
 explained_own source cause old new before after count Signed notes is by adds = absurd by
 explained_own source cause old new before after count (Missed fetched miss) notes is by adds = absurd by
 explained_own source cause old new before after count (Controlled tag) notes is by adds = absurd by

@@ -2,7 +2,7 @@
 
 ghost use Rattle.std.specs.Prelude.{◌≡◌, ◌++◌, ◌∷◌, [], None, Some, OnOk, IfOk, IfSome, is_some, true};
 ghost use Rattle.script_lines.specs.Texts.{audit_text};
-ghost use Rattle.hba.specs.History.{State, Operation, Adds, denial_heard};
+ghost use Rattle.hba.specs.History.{over_new, State, Operation, Adds, denial_heard};
 ghost use Rattle.hba.specs.Engine.{done_of};
 ghost use Rattle.hba_program.specs.Explained.{ExplainsOperation, HearsOperation, IsOwn, StartsTelling, source_at};
 ghost use Rattle.hba_program.specs.Sayings.{part_by, work_tag, fetch_reply, complete_reply, work_reply, work_text, denials_text, sector_line, kept_denial};
@@ -153,7 +153,7 @@ impl Session {
 
     /// A controller over a drive that has done no act, with reasons or without.
     pub fn new(alloc: Global, drive: Drive, explains: bool) -> Session
-        ensures hba { (o : Origin) → Agrees drive o [] → AgreesHba result.hba o [] }
+        ensures hba { (o : Origin) → Agrees drive o [] → AgreesHba result.hba (over_new o) [] }
         ensures kept { StartsTelling explains result.explainer drive }
         ensures denials { result.denials.items ≡ [] }
     {

@@ -7,8 +7,7 @@ use Rattle.hba.specs.declared.work.Done.{Done}
 use Rattle.hba.specs.declared.work.Done.TheVariants as dones
 use Rattle.hba.specs.Showing.{fault_of}
 use Rattle.fis.specs.declared.any.Fis.{Fis}
-use Rattle.history.specs.Opening.{Origin}
-use Rattle.hba.specs.History.{Operation, Fetched, AgreesHba, account, drive_effect, effect_after}
+use Rattle.hba.specs.History.{Opened, Operation, Fetched, AgreesHba, account, drive_effect, effect_after}
 use Rattle.drive.specs.Answers.{fises_in}
 use Rattle.hba.specs.Blocks.{block_size, of_last_block}
 use Rattle.hba.specs.Engine.{Executes, IsEffect}
@@ -42,7 +41,7 @@ returns-clause-done g c =
     let told : c.as_slice-fises.result.now ≡ map (of_last_block ((length c.as_slice-payload.result.now + length c.gift-gift.result.given) / block_size)) (fises_in c.take.new.answer) =
     rw (c.as_slice-fises.ensures.value, ← c.fises.ensures, ← moved) c.by_blocks-told.ensures in
     let given = rw (← c.as_slice.ensures.value, ← c.gift-gift.ensures) at c.in_ok-lent.ensures.effect in
-    let gives : (o : Origin) (list : List Operation) → AgreesHba c.args.self.now o list
+    let gives : (o : Opened) (list : List Operation) → AgreesHba c.args.self.now o list
     → IsEffect (effect_after o (account o list) (Accept c.args.fis.now c.as_slice-payload.result.now)) c.as_slice-fises.result.now c.gift-gift.result.given =
     λ o list a. subst (λ (fs : List Fis). IsEffect (effect_after o (account o list) (Accept c.args.fis.now c.as_slice-payload.result.now)) fs c.gift-gift.result.given) (sym told)
     (told_effect c.args.fis.now c.as_slice-payload.result.now (drive_effect o (account o list) (Accept c.args.fis.now c.as_slice-payload.result.now)) (fises_in c.take.new.answer) c.gift-gift.result.given (given o list a)) in
