@@ -72,6 +72,43 @@ static void clones(void)
     is("a free of the clone", opal_free(&twin), OPAL_DONE);
 }
 
+static void saves(void)
+{
+    static uint8_t text[1 << 20];
+    opal_handle drive = made(), loaded = OPAL_NONE;
+    opal_count told = opal_save(&drive, text, 10);
+    is("a save without room", told.code, OPAL_ROOM);
+    is("a save", opal_save(&drive, text, told.number).code, OPAL_DONE);
+    is("a save into the handle", opal_save(&drive, &drive, sizeof drive).code, OPAL_SHARED);
+    is("a save to a null pointer", opal_save(&drive, NULL, 10).code, OPAL_NULL);
+    is("a save of nothing", opal_save(&loaded, text, sizeof text).code, OPAL_NO_HANDLE);
+    is("a load where a drive is", opal_drive_load(&drive, text, told.number), OPAL_IN_USE);
+    is("a load at a null pointer", opal_drive_load(NULL, text, told.number), OPAL_NULL);
+    is("a load of a null pointer", opal_drive_load(&loaded, NULL, told.number), OPAL_NULL);
+    is("a load of no bytes", opal_drive_load(&loaded, NULL, 0), OPAL_MALFORMED);
+    is("a load of all but the last byte", opal_drive_load(&loaded, text, told.number - 1), OPAL_MALFORMED);
+    is("a load of one byte more", opal_drive_load(&loaded, text, told.number + 1), OPAL_MALFORMED);
+    for (size_t i = 0; i < told.number; i += 97) {
+        text[i] ^= 0x80;
+        if (opal_drive_load(&loaded, text, told.number) == OPAL_DONE)
+            is("the free of a drive of other bytes", opal_free(&loaded), OPAL_DONE);
+        text[i] ^= 0x80;
+    }
+    is("a load", opal_drive_load(&loaded, text, told.number), OPAL_DONE);
+    is("its read", reads(&loaded), OPAL_DONE);
+    is("a load of a controller where a drive is", opal_hba_load(&loaded, text, told.number), OPAL_IN_USE);
+    is("its free", opal_free(&loaded), OPAL_DONE);
+    is("a load of a controller at a null pointer", opal_hba_load(NULL, text, told.number), OPAL_NULL);
+    is("a load of a controller of a null pointer", opal_hba_load(&loaded, NULL, told.number), OPAL_NULL);
+    is("a load of a controller of no bytes", opal_hba_load(&loaded, NULL, 0), OPAL_MALFORMED);
+    is("a load of a controller", opal_hba_load(&loaded, text, told.number), OPAL_DONE);
+    is("a read of its registers", opal_hba_read(&loaded, 0).code, OPAL_DONE);
+    is("its save", opal_save(&loaded, text, told.number).code, OPAL_DONE);
+    is("its free", opal_free(&loaded), OPAL_DONE);
+    is("the free of what was saved", opal_free(&drive), OPAL_DONE);
+    is("a save of what was freed", opal_save(&drive, text, sizeof text).code, OPAL_NO_HANDLE);
+}
+
 static void bytes(void)
 {
     static const uint64_t forged[][2] = { { 0, 0 }, { 1, 0 }, { 0x6f70616c00000001, 99999 }, { 0x6f70616c706f7274, 8 },
@@ -143,6 +180,6 @@ int main(void)
     if (opal_command_fis(OPAL_READ_DMA, 5, 1, 0, fis, sizeof fis).code != OPAL_DONE || opal_free(NULL) != OPAL_NULL)
         return 2;
     memset(sector, 7, sizeof sector);
-    copies(), clones(), bytes(), moves(), threads();
+    copies(), clones(), saves(), bytes(), moves(), threads();
     return wrong;
 }

@@ -1,5 +1,5 @@
 /* How much stack the calls of the library take: each is made in a thread with 64 KiB of stack, which is painted before, and what
-   is painted no more is counted. A call may take 16 KiB, a copy 40, as the header says. A page below the stack can't be touched. */
+   is painted no more is counted. A call may take 16 KiB, a copy, a save and a load 40, as the header says. A page below the stack can't be touched. */
 #include "opalport.h"
 
 #include <pthread.h>
@@ -17,6 +17,7 @@ static opal_config config = OPAL_CONFIG_INIT;
 static uint8_t fis[OPAL_FIS_BYTES], block[OPAL_SECTOR_BYTES], many[60000], memory[0x4000];
 static char text[1 << 20];
 static opal_code code;
+static size_t saved;
 
 /* StartSession on the Locking SP as Admin1, with the MSID as the challenge, for writing. */
 static const uint8_t start_session[] = {
@@ -29,6 +30,9 @@ static void *nothing(void *it) { return it; }
 static void *drive_new(void *it) { code = opal_drive_new(&handle, &config); return it; }
 static void *clones(void *it) { code = opal_clone(&twin, &handle); return it; }
 static void *frees_clone(void *it) { code = opal_free(&twin); return it; }
+static void *saves(void *it) { opal_count told = opal_save(&handle, text, sizeof text); code = told.code, saved = told.number; return it; }
+static void *loads(void *it) { code = opal_drive_load(&twin, text, saved); return it; }
+static void *hba_loads(void *it) { code = opal_hba_load(&twin, text, saved); return it; }
 static void *port_new(void *it) { code = opal_port_new(&handle, &config); return it; }
 static void *hba_new(void *it) { code = opal_hba_new(&handle, &config); return it; }
 static void *frees(void *it) { code = opal_free(&handle); return it; }
@@ -151,6 +155,7 @@ static void run(const char *what, void *(*call)(void *), size_t may_take)
 
 #define RUN(call) run(#call, call, MOST)
 #define CLONE(what) run("a clone of " what, clones, MOST_OF_A_COPY), RUN(frees_clone)
+#define SAVE(what) run("a save of " what, saves, MOST_OF_A_COPY), run("its load", loads, MOST_OF_A_COPY), RUN(frees_clone), run("its load into a controller", hba_loads, MOST_OF_A_COPY), RUN(frees_clone)
 
 int main(void)
 {
@@ -159,16 +164,16 @@ int main(void)
     config.ranges = &locked, config.range_count = 1;
     RUN(version), RUN(tokens), RUN(named);
     RUN(drive_new), RUN(about), RUN(media);
-    RUN(frame), RUN(opened), RUN(send_fis), RUN(send_block), CLONE("a drive"), RUN(receive_fis), RUN(accepts), RUN(data);
+    RUN(frame), RUN(opened), RUN(send_fis), RUN(send_block), CLONE("a drive"), SAVE("a drive"), RUN(receive_fis), RUN(accepts), RUN(data);
     RUN(read_fis), RUN(decoded), RUN(payload), RUN(accepts), RUN(expects), RUN(completes), RUN(accepts_into), RUN(completes_into);
     RUN(failure), RUN(reset);
     RUN(read_dma_fis), RUN(accepts), RUN(denial), RUN(denied), RUN(remedy);
     RUN(frees);
     RUN(port_new);
     RUN(port_put), RUN(port_ready), RUN(port_issue), RUN(port_accept), RUN(port_complete), RUN(port_take), RUN(port_data);
-    RUN(port_put), RUN(port_turn), RUN(port_shown), RUN(port_denial), RUN(port_denied), RUN(port_denials), CLONE("a port"), RUN(port_recover), RUN(port_reset), RUN(frees);
+    RUN(port_put), RUN(port_turn), RUN(port_shown), RUN(port_denial), RUN(port_denied), RUN(port_denials), CLONE("a port"), SAVE("a port"), RUN(port_recover), RUN(port_reset), RUN(frees);
     RUN(hba_new);
-    RUN(hba_start), RUN(hba_turn), RUN(hba_issue), RUN(hba_within), RUN(hba_read), RUN(hba_interrupt), RUN(hba_denial), RUN(hba_denied), CLONE("a controller");
+    RUN(hba_start), RUN(hba_turn), RUN(hba_issue), RUN(hba_within), RUN(hba_read), RUN(hba_interrupt), RUN(hba_denial), RUN(hba_denied), CLONE("a controller"), SAVE("a controller");
     RUN(hba_cycle), RUN(frees);
     fprintf(stderr, "stack: at most %zu bytes in any call that copies nothing\n", most);
     return wrong;

@@ -3,6 +3,7 @@
    says, so that AddressSanitizer sees one byte more. A call may refuse anything; it may not give a code that no call has. */
 #include "opalport.h"
 
+#include <stdbool.h>
 #include <stdio.h>
 #include <stdlib.h>
 #include <string.h>
@@ -177,6 +178,40 @@ static void of_bytes(unsigned which)
     free(to);
 }
 
+/* The drive of a handle is saved, a byte of it is changed or none, and it is loaded. Where none is, what is loaded is saved as the
+   same bytes; else a save may lock what the changed bytes had unlocked, since it is a power cycle. What is loaded may take the place
+   of what there was. */
+static void of_saved(unsigned which)
+{
+    opal_handle *from[] = { &drive, &port, &hba }, loaded = OPAL_NONE;
+    uint8_t least[1];
+    size_t length = opal_save(from[which % 3], least, sizeof least).number;
+    uint8_t *text = space(length), *again = space(length), as_hba = byte() & 1;
+    told(opal_save(from[which % 3], text, length), length);
+    if (which >= 6)
+        text[(word() | word() << 16) % length] ^= byte();
+    opal_code code = as_hba ? opal_hba_load(&loaded, text, length) : opal_drive_load(&loaded, text, length);
+    known(code);
+    if (code != OPAL_DONE && which < 6)
+        abort();
+    if (code == OPAL_DONE) {
+        opal_count count = opal_save(&loaded, again, length);
+        bool is_same = count.code == OPAL_DONE && count.number == length && memcmp(text, again, length) == 0;
+        known(count.code);
+        if (which < 6 && !is_same)
+            abort();
+        opal_handle *gone = as_hba ? &hba : &drive;
+        if (byte() & 1) {
+            opal_handle before = *gone;
+            *gone = loaded;
+            loaded = before;
+        }
+        known(opal_free(&loaded));
+    }
+    free(text);
+    free(again);
+}
+
 int main(void)
 {
     static const opal_config plain = OPAL_CONFIG_INIT, opal = OPAL_CONFIG_INIT_OPAL;
@@ -197,6 +232,7 @@ int main(void)
         case 1: of_drive(which % 10); break;
         case 2: of_port(which % 10); break;
         case 3: of_hba(which % 10); break;
+        case 5: of_saved(which % 10); break;
         default: of_bytes(which % 7); break;
         }
     }

@@ -14,7 +14,7 @@
 
    Each call gives a code: OPAL_DONE, or why it was refused, and then nothing was done. opal_error_text tells it in
    words. A call never ends the process and never prints. It waits for no other call, but for the moment in which that looks up
-   its handle. It takes memory from malloc, and up to 16 KiB of stack, opal_clone up to 40. A text that is given has a length, and
+   its handle. It takes memory from malloc, and up to 16 KiB of stack, opal_clone, opal_save, opal_drive_load and opal_hba_load up to 40. A text that is given has a length, and
    no zero behind it.
 
    A handle is a number. The library looks it up in its table, and follows no address in it. A number is never given twice. So a
@@ -421,6 +421,9 @@ opal_code opal_raw_drive_new(opal_raw_object *object, opal_raw_size size, const 
                              const uint8_t *serial, size_t serial_length, const uint8_t *model, size_t model_length,
                              const uint8_t *psid, size_t psid_length, const opal_range *ranges, size_t range_count);
 opal_code opal_raw_clone(opal_raw_object *object, opal_raw_object *from);
+opal_count opal_raw_save(opal_raw_object *object, uint8_t *into, size_t length);
+opal_code opal_raw_drive_load(opal_raw_object *object, const uint8_t *saved, size_t length);
+opal_code opal_raw_hba_load(opal_raw_object *object, const uint8_t *saved, size_t length);
 opal_code opal_raw_free(opal_raw_object *object);
 opal_answer opal_raw_drive_accept(opal_raw_object *object, const uint8_t *fis, size_t fis_length, const uint8_t *payload,
                                   size_t payload_length);
@@ -688,6 +691,59 @@ OPAL_MUST_USE static inline opal_code opal_clone(opal_handle *handle, const opal
     fault = opal_raw_clone(&call.object, &other.object);
     opal_raw_end(&other);
     return opal_raw_made(&call, handle, fault);
+}
+
+/* Copies the drive of a handle of any kind as bytes: what a power cycle leaves of it, rows, PINs and sectors. They are what
+   opal_drive_load and opal_hba_load take, and may be kept in a file; nothing in them is encrypted. What the handle has goes on as it was. A
+   buffer without room is as before, and the number tells how many bytes there are. Refused: OPAL_NULL, OPAL_MISALIGNED,
+   OPAL_SHARED, OPAL_LENGTH, OPAL_NOT_OPEN, OPAL_BUSY, OPAL_ROOM, OPAL_OUT_OF_MEMORY; OPAL_MALFORMED of a drive with a cell of
+   2^24 bytes or more, which none has that calls have made. */
+OPAL_MUST_USE static inline opal_count opal_save(const opal_handle *handle, void *into, size_t length)
+{
+    opal_raw_call call;
+    opal_count told = { opal_raw_begin(&call, handle, opal_raw_into(handle, into, length)), 0 };
+    if (told.code != OPAL_DONE)
+        return told;
+    told = opal_raw_save(&call.object, opal_raw_at(into), length);
+    opal_raw_end(&call);
+    return told;
+}
+
+/* Why a handle can't be given what is loaded from these bytes. */
+static inline opal_code opal_raw_unloadable(const opal_handle *handle, const void *saved, size_t length)
+{
+    opal_code fault = opal_raw_of(handle);
+    if (fault == OPAL_DONE)
+        fault = opal_raw_buffer(saved, length);
+    if (fault != OPAL_DONE)
+        return fault;
+    if (opal_raw_version() >> 8 != OPAL_VERSION >> 8)
+        return OPAL_VERSION_DIFFERS;
+    return opal_raw_is_free(handle) ? OPAL_DONE : OPAL_IN_USE;
+}
+
+/* Makes the drive that was saved as these bytes, at a handle with nothing. It is as a power cycle leaves it: each answer is the one
+   that the saved drive gives behind a power cycle. Refused: OPAL_NULL, OPAL_MISALIGNED, OPAL_LENGTH, OPAL_IN_USE,
+   OPAL_VERSION_DIFFERS, OPAL_OUT_OF_MEMORY; OPAL_MALFORMED of bytes that are no saved drive, of another version of its form, or
+   damaged. */
+OPAL_MUST_USE static inline opal_code opal_drive_load(opal_handle *drive, const void *saved, size_t length)
+{
+    opal_code fault = opal_raw_unloadable(drive, saved, length);
+    if (fault != OPAL_DONE)
+        return fault;
+    opal_raw_call call = { { 0, NULL }, OPAL_NONE };
+    return opal_raw_made(&call, drive, opal_raw_drive_load(&call.object, opal_raw_at(saved), length));
+}
+
+/* Makes a controller over the drive that was saved as these bytes, at a handle with nothing. Its registers are as after its reset,
+   and it counts the acts of its drive from then on. Refused: as opal_drive_load. */
+OPAL_MUST_USE static inline opal_code opal_hba_load(opal_handle *hba, const void *saved, size_t length)
+{
+    opal_code fault = opal_raw_unloadable(hba, saved, length);
+    if (fault != OPAL_DONE)
+        return fault;
+    opal_raw_call call = { { 0, NULL }, OPAL_NONE };
+    return opal_raw_made(&call, hba, opal_raw_hba_load(&call.object, opal_raw_at(saved), length));
 }
 
 /* What a handle has: its kind, and of the drive the profile and the sectors. Refused: OPAL_NULL, OPAL_MISALIGNED,

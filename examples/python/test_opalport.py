@@ -262,6 +262,59 @@ class OnADrive(unittest.TestCase):
                 copied.write(0x114, 0x02)
                 self.assertEqual((hba.read(0x114), copied.read(0x114)), (0x01, 0x02))
 
+    def test_a_drive_is_saved_and_loaded(self):
+        self.call(0, 0, START)
+        self.assertEqual(self.call(0x1000, 7, UNLOCK), "reply [] 0 0 0")
+        self.drive.accept(command_fis(Command.WRITE_DMA, 99, 2), b"\x05" * (2 * SECTOR))
+        self.assertTrue(self.drive.accept(command_fis(Command.READ_QUEUED, 99, 1, 3)).held)
+        saved = self.drive.save()
+        self.assertEqual(self.drive.complete(3).data, b"\x05" * SECTOR)  # it goes on as it was
+        self.assertEqual(self.drive.accept(read(99, 2)).data, b"\x05" * (2 * SECTOR))
+        with Drive.load(saved) as loaded:
+            self.assertEqual(loaded.save(), saved)
+            self.refuses(Code.NOT_HELD, loaded.complete, 3)
+            # LockOnReset of a range has the power cycle from the factory on (Opal SSC 2.01, 4.3.5.2.2).
+            self.assertEqual(loaded.accept(read(99, 2)).denied, True)
+            self.assertEqual(loaded.denial(7), "1 7 deny read 99+2 range 1 ReadLocked")
+            self.assertEqual(loaded.accept(read(99)).data, b"\x05" * SECTOR)
+            self.assertEqual(loaded.media(100), b"\x05" * SECTOR)
+            # The session that was open is gone, and the next one has the next number.
+            self.assertIn(bytes.fromhex("07821001"), self.started(loaded))
+            self.assertEqual(self.call(0x1001, 7, UNLOCK, loaded), "reply [] 0 0 0")
+            self.assertEqual(loaded.accept(read(99, 2)).data, b"\x05" * (2 * SECTOR))
+
+    def started(self, drive):
+        drive.accept(trusted_fis(True, SECURITY, COM_ID, 1), frame(COM_ID, 0, 0, START).ljust(SECTOR, b"\0"))
+        return opened(drive.accept(trusted_fis(False, SECURITY, COM_ID, 1)).data).payload
+
+    def test_a_drive_of_each_profile_is_saved(self):
+        for words in ({}, {"profile": "field", "serial": "S 1", "datastore": 100}, {"profile": "opal", "psid": b"a label", "seed": 7}):
+            with self.subTest(**words), Drive(sectors=524_288, shadow=262_144, ranges=[LOCKED], **words) as drive:
+                drive.accept(command_fis(Command.WRITE_DMA, 524_287), bytes(range(256)) * 2)
+                with Drive.load(drive.save()) as loaded:
+                    self.assertEqual((loaded.profile, loaded.sectors, loaded.shadow), (drive.profile, 524_288, 262_144))
+                    self.assertEqual(loaded.media(524_287), bytes(range(256)) * 2)
+                    drive.reset(Reset.POWER_CYCLE)
+                    for lba in (0, 95, 100, 524_287):
+                        self.assertEqual(loaded.accept(read(lba, 1)), drive.accept(read(lba, 1)))
+                    for page in range(2):  # Level 0 discovery, and IDENTIFY DEVICE
+                        fis = trusted_fis(False, SECURITY, 1, 1) if page == 0 else command_fis(Command.IDENTIFY, 0, 0)
+                        self.assertEqual(loaded.accept(fis), drive.accept(fis))
+
+    def test_what_a_port_and_a_controller_have_is_saved(self):
+        for make in (Port, Hba):
+            with make(sectors=20, msid=b"m") as it, Drive(sectors=20, msid=b"m") as drive:
+                self.assertEqual(it.save(), drive.save())
+
+    def test_bytes_that_are_no_saved_drive(self):
+        saved = self.drive.save()
+        at = saved.index(b"Opalport") + 8
+        wrong = [b"", b"\xfa", saved[:-1], saved + b"\xff", b"\xf1" + saved[1:], saved[:at] + b"\x02" + saved[at + 1:],
+                 saved.replace(b"Opalport", b"Opalporn", 1), saved[:at + 2] + b"\x03" + saved[at + 3:], bytes(100)]
+        for text in wrong:
+            with self.subTest(text=text[:20]):
+                self.refuses(Code.MALFORMED, Drive.load, text)
+
     def test_a_drive_is_not_pickled(self):
         with self.assertRaises(TypeError):
             pickle.dumps(self.drive)
@@ -480,6 +533,33 @@ class OnAController(unittest.TestCase):
         with self.assertRaises(OpalError) as it:
             self.hba.turn(self.memory, self.BASE, regions=[(0, 2**64)])
         self.assertEqual(it.exception.code, Code.NUMBER)
+
+    def test_a_controller_over_a_drive_that_was_saved(self):
+        self.start()
+        self.read(0)
+        self.read(100)
+        saved = self.hba.save()
+        self.hba.close()
+        self.hba = Hba.load(saved)
+        self.addCleanup(self.hba.close)
+        self.assertEqual(self.hba.save(), saved)
+        # After its reset the controller tells no signature, and no address of the host (AHCI 1.3.1, 3.3.1 and 3.3.9).
+        self.assertEqual((self.hba.read(self.PxCLB), self.hba.read(self.PxCMD + 0xC), self.hba.denial()), (0, 2**32 - 1, ""))
+        self.start()
+        self.assertEqual(self.read(100), Worked(Work.FETCH, 0, Went.SERVED, True))
+        # The acts of the drive are counted from the load on.
+        self.assertEqual(self.hba.denial(), "1 0 deny read 100+1 range 1 ReadLocked")
+        self.memory[0x3000:0x3200] = b"\xff" * SECTOR
+        self.hba.power_cycle()
+        self.start()
+        self.assertEqual(self.read(0), Worked(Work.FETCH, 0, Went.SERVED, False))
+        self.assertEqual(self.memory[0x3000:0x3200], bytes(SECTOR))
+        with Drive.load(saved) as drive, Hba.load(drive.save()) as other:
+            self.assertEqual(other.save(), saved)
+        for text in (b"", saved[:-1], saved + b"\xff"):
+            with self.assertRaises(OpalError) as it:
+                Hba.load(text)
+            self.assertEqual(it.exception.code, Code.MALFORMED)
 
     def test_what_a_caller_gets_wrong_is_an_error(self):
         with self.assertRaises(OpalError) as it:

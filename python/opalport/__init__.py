@@ -419,6 +419,9 @@ _CALLS = {
     "remedy": (_Count, [*_HANDLE, ctypes.c_size_t, *_BYTES]),
     "drive_new": (ctypes.c_uint32, _MAKE),
     "clone": (ctypes.c_uint32, [*_HANDLE, *_HANDLE]),
+    "save": (_Count, [*_HANDLE, *_BYTES]),
+    "drive_load": (ctypes.c_uint32, [*_HANDLE, *_BYTES]),
+    "hba_load": (ctypes.c_uint32, [*_HANDLE, *_BYTES]),
     "free": (ctypes.c_uint32, _HANDLE),
     "drive_accept": (_Answer, [*_HANDLE, *_BYTES, *_BYTES]),
     "drive_complete": (_Answer, [*_HANDLE, ctypes.c_uint8, *_BYTES]),
@@ -649,6 +652,12 @@ class _Object:
             _check(_LIBRARY.clone(copied._handle, self._handle))
         return copied
 
+    def save(self) -> bytes:
+        """The drive as bytes, as a power cycle leaves it: what `Drive.load` and `Hba.load` take. It goes on as it was. PINs and sectors stand in
+        them as they are."""
+        with self._lock:
+            return _written(_LIBRARY.save, self._handle, room=1 << 16)
+
     def __copy__(self: _Self) -> _Self:
         return self.clone()
 
@@ -706,6 +715,15 @@ _ROOM, _FIS_SIZE = ctypes.c_size_t(_MOST), ctypes.c_size_t(FIS_LENGTH)
 
 class Drive(_Object):
     """A self-locking drive."""
+
+    @classmethod
+    def load(cls, saved: Bytes) -> "Drive":
+        """The drive that was saved as these bytes. It answers as the saved drive does behind a power cycle. `Code.MALFORMED` of
+        bytes that are no saved drive."""
+        loaded = cls.__new__(cls)
+        loaded._hold_nothing()
+        _check(_LIBRARY.drive_load(loaded._handle, *_bytes(saved)))
+        return loaded
 
     _make = "drive_new"
     _data: Optional[memoryview] = None  # a buffer for the data of an answer, which stands at an address
@@ -868,6 +886,15 @@ class Port(_Object):
 
 class Hba(_Object):
     """An AHCI controller with one port, and the drive behind it: registers, and memory of yours."""
+
+    @classmethod
+    def load(cls, saved: Bytes) -> "Hba":
+        """A controller over the drive that was saved as these bytes, as `Drive.load`. Its registers are as after its reset, and it
+        counts the acts of its drive from then on."""
+        loaded = cls.__new__(cls)
+        loaded._hold_nothing()
+        _check(_LIBRARY.hba_load(loaded._handle, *_bytes(saved)))
+        return loaded
 
     _make = "hba_new"
 

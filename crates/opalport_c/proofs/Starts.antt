@@ -4,15 +4,15 @@ use Rattle.sp_cells.specs.Config.{Config}
 use Rattle.locking.specs.declared.range.RangeRow.{RangeRow}
 use Rattle.history.specs.Opening.{Origin}
 use Rattle.drive.specs.State.{DriveState, Agrees}
-use Rattle.hba.specs.History.{State, AgreesHba}
+use Rattle.hba.specs.History.{over_new, State}
 use Rattle.port.specs.Live.{LiveAgrees, LiveState}
 use Rattle.opalport_c.specs.Asked.{StartsAs}
-use Rattle.opalport_c.specs.HbaCalls.{HbaStartsAs}
+use Rattle.opalport_c.specs.HbaCalls.{HbaOver, HbaStartsAs}
 use Rattle.opalport_c.specs.PortCalls.{PortStartsAs}
 
 pub hba_starts : (config : Config) (rows : List RangeRow) (drive : DriveState) (hba : State)
-    → ((o : Origin) → Agrees drive o [] → AgreesHba hba o []) → StartsAs config rows drive → HbaStartsAs config rows hba
-hba_starts config rows drive hba agrees starts = (starts.0, starts.1, agrees starts.0 starts.2)
+    → HbaOver drive hba → StartsAs config rows drive → HbaStartsAs config rows hba
+hba_starts config rows drive hba agrees starts = (starts.0, starts.1, agrees (over_new starts.0) starts.2)
 
 pub port_starts : (config : Config) (rows : List RangeRow) (drive : DriveState) (port : LiveState)
     → ((o : Origin) → Agrees drive o [] → LiveAgrees port o []) → StartsAs config rows drive → PortStartsAs config rows port

@@ -10,7 +10,7 @@ use Rattle.fis.specs.Bytes.{bit}
 use Rattle.locking.specs.declared.range.RangeRow.{RangeRow}
 use Rattle.sp_cells.specs.Config.{Config}
 use Rattle.history.specs.Opening.{Origin, opened_with}
-use Rattle.hba.specs.History.{State, AgreesHba}
+use Rattle.hba.specs.History.{Opened, over_new, State, AgreesHba}
 use Rattle.drive.specs.State.{DriveState, Agrees}
 use Rattle.hba.specs.Registers.{word_at, line}
 use Rattle.host_memory.specs.Access.{Access}
@@ -86,11 +86,11 @@ CopiesDenied had has into out count = ByHba had has (WritesNone into out count)
 -- What the drive of a controller with these rows starts from: with none it is as it leaves the factory.
 abbrev pub HbaStartsAs : Config → List RangeRow → State → Type 0
 HbaStartsAs config rows hba =
-    (o : Origin) × (opened_with config rows ≡ Ok o) × AgreesHba hba o []
+    (o : Origin) × (opened_with config rows ≡ Ok o) × AgreesHba hba (over_new o) []
 
--- A controller over a drive starts from what the drive starts from.
+-- A controller after its reset, over a drive that is new, or that has done acts before.
 abbrev pub HbaOver : DriveState → State → Type 0
-HbaOver drive hba = (o : Origin) → Agrees drive o [] → AgreesHba hba o []
+HbaOver drive hba = (o : Opened) → Agrees drive o.origin o.earlier → AgreesHba hba o []
 
 -- A handle with nothing is given a controller that did no turn, or nothing was done.
 pub record MakesHba (had has : Option Object) (size : Size) (msid serial model psid : List ℕ)

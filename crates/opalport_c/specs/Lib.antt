@@ -14,4 +14,5 @@ pub mod Owned
 pub mod PortCalls
 pub mod Refused
 pub mod Remedies
+pub mod Saves
 pub mod Version

@@ -16,7 +16,7 @@ use std::alloc::Global;
 
 /// A drive's desk in a box. It is a call of its own for the stack that it takes, as are the two below.
 #[inline(never)]
-fn of_drive(alloc: Global, desk: DriveDesk) -> Result<Box<Object>, CallError>
+pub(crate) fn of_drive(alloc: Global, desk: DriveDesk) -> Result<Box<Object>, CallError>
     ensures value { IfOk result (λ object. object.value ≡ objects.Drive desk) }
     ensures why { IfErr result (λ e. e ≡ OutOfMemory) }
 {

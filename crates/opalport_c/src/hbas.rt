@@ -19,7 +19,7 @@ use std::alloc::Global;
 
 /// The controller over this drive. It is a call of its own for the stack that it takes, as that of a port.
 #[inline(never)]
-fn hba_over(alloc: Global, drive: Drive) -> Result<Box<Object>, CallError>
+pub(crate) fn hba_over(alloc: Global, drive: Drive) -> Result<Box<Object>, CallError>
     ensures made { IfOk result (λ object. (desk : HbaDesk) × (object.value ≡ objects.Hba desk)
         × (desk.denied ≡ None) × HbaOver drive desk.hba) }
     ensures why { IfErr result (λ e. e ≡ OutOfMemory) }

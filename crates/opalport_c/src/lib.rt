@@ -24,6 +24,7 @@ mod port_object;
 mod ports;
 mod refusals;
 mod remedy;
+mod saves;
 mod settings;
 mod version;
 

@@ -291,6 +291,12 @@ extern "C" {
     ) -> u32;
     /// `opal_clone` of the header.
     pub fn opal_raw_clone(handle: *mut Handle, from: *mut Handle) -> u32;
+    /// `opal_save` of the header.
+    pub fn opal_raw_save(handle: *mut Handle, into: *mut u8, length: usize) -> Count;
+    /// `opal_drive_load` of the header.
+    pub fn opal_raw_drive_load(handle: *mut Handle, saved: *const u8, length: usize) -> u32;
+    /// `opal_hba_load` of the header.
+    pub fn opal_raw_hba_load(handle: *mut Handle, saved: *const u8, length: usize) -> u32;
     /// `opal_free` of the header.
     pub fn opal_raw_free(handle: *mut Handle) -> u32;
     /// `opal_drive_accept` of the header.

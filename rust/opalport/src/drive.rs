@@ -29,6 +29,21 @@ impl Drive {
         self.object.try_clone().map(|object| Drive { object })
     }
 
+    /// The drive as bytes, as a power cycle leaves it: what [`Drive::load`] and [`Hba::load`](crate::Hba::load) take. The drive goes on as it was. PINs and sectors
+    /// stand in them as they are.
+    pub fn save(&mut self) -> Result<Vec<u8>, Error> {
+        self.object.save()
+    }
+
+    /// The drive that was saved as these bytes. It answers as the saved drive does behind a power cycle. [`Error::Malformed`] of
+    /// bytes that are no saved drive.
+    pub fn load(saved: &[u8]) -> Result<Drive, Error> {
+        let mut object = Object::none();
+        // SAFETY: the handle begins as one with nothing; the bytes are borrowed for the call.
+        Error::check(unsafe { raw::opal_raw_drive_load(&mut object.handle, saved.as_ptr(), saved.len()) })?;
+        Ok(Drive { object })
+    }
+
     fn answer(&mut self, told: raw::Answer) -> Result<Answer, Error> {
         Error::check(told.code)?;
         let data = if told.length == 0 {

@@ -58,6 +58,20 @@ impl Hba {
         Object::new(raw::opal_raw_hba_new, config).map(|object| Hba { object })
     }
 
+    /// A controller over the drive that was saved as these bytes, as [`Drive::load`](crate::Drive::load). Its registers are as after
+    /// its reset, and it counts the acts of its drive from then on.
+    pub fn load(saved: &[u8]) -> Result<Hba, Error> {
+        let mut object = Object::none();
+        // SAFETY: the handle begins as one with nothing; the bytes are borrowed for the call.
+        Error::check(unsafe { raw::opal_raw_hba_load(&mut object.handle, saved.as_ptr(), saved.len()) })?;
+        Ok(Hba { object })
+    }
+
+    /// Its drive as bytes, as [`Drive::save`](crate::Drive::save).
+    pub fn save(&mut self) -> Result<Vec<u8>, Error> {
+        self.object.save()
+    }
+
     /// The same once more, in memory of its own, as [`Drive::try_clone`](crate::Drive::try_clone).
     pub fn try_clone(&mut self) -> Result<Hba, Error> {
         self.object.try_clone().map(|object| Hba { object })

@@ -642,6 +642,11 @@ impl Object {
         written(400, |into, room| unsafe { raw::opal_raw_remedy(&mut self.handle, place, into, room) }).map(text)
     }
 
+    fn save(&mut self) -> Result<Vec<u8>, Error> {
+        // SAFETY: the handle is this object's own, and the buffer is there for the call.
+        written(1 << 16, |into, room| unsafe { raw::opal_raw_save(&mut self.handle, into, room) })
+    }
+
     fn media(&mut self, lba: u64) -> Result<Vec<u8>, Error> {
         // SAFETY: the handle is this object's own, and the buffer is there for the call.
         written(512, |into, room| unsafe { raw::opal_raw_media(&mut self.handle, lba, into, room) })

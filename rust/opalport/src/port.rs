@@ -122,6 +122,11 @@ impl Port {
         Object::new(raw::opal_raw_port_new, config).map(|object| Port { object })
     }
 
+    /// Its drive as bytes, as [`Drive::save`](crate::Drive::save).
+    pub fn save(&mut self) -> Result<Vec<u8>, Error> {
+        self.object.save()
+    }
+
     /// The same once more, in memory of its own, as [`Drive::try_clone`](crate::Drive::try_clone).
     pub fn try_clone(&mut self) -> Result<Port, Error> {
         self.object.try_clone().map(|object| Port { object })

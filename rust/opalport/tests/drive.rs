@@ -62,6 +62,22 @@ fn a_copy_goes_its_own_way() {
 }
 
 #[test]
+fn a_drive_is_saved_and_loaded() {
+    let mut drive = locked();
+    call(&mut drive, 0, 0, START);
+    assert_eq!(call(&mut drive, 0x1000, 7, UNLOCK), "reply [] 0 0 0");
+    assert_eq!(give(&mut drive, Command::WriteDma { lba: 99, count: 2 }, &[5; 1024]).status, 0x50);
+    let saved = drive.save().unwrap();
+    assert_eq!(give(&mut drive, Command::ReadDma { lba: 99, count: 2 }, &[]).data, [5; 1024]);
+    let mut loaded = Drive::load(&saved).unwrap();
+    assert_eq!(loaded.save().unwrap(), saved);
+    assert!(give(&mut loaded, Command::ReadDma { lba: 99, count: 2 }, &[]).denied);
+    assert_eq!(loaded.denial(7).unwrap(), "1 7 deny read 99+2 range 1 ReadLocked");
+    assert_eq!(give(&mut loaded, Command::ReadDma { lba: 99, count: 1 }, &[]).data, [5; 512]);
+    assert_eq!(Drive::load(&saved[1..]).err(), Some(Error::Malformed));
+}
+
+#[test]
 fn a_call_is_written_by_name() {
     assert_eq!(call_named("set 1 Locking_Range1 ReadLocked=0 WriteLocked=0").unwrap(), bytes(UNLOCK));
     assert_eq!(call_named("end 1").unwrap(), [0xfa]);

@@ -86,3 +86,18 @@ fn a_controller_may_move_to_another_thread() {
     assert_eq!(std::thread::spawn(move || hba.about().map(|it| it.sectors)).join().unwrap(), Ok(1000));
     assert_eq!(Hba::new(&Config { sectors: 0, ..Config::default() }).err(), Some(Error::Sectors));
 }
+
+#[test]
+fn a_controller_over_a_drive_that_was_saved() {
+    let mut memory = vec![0; 0x4000];
+    let mut before = hba();
+    start(&mut before, &mut memory);
+    read(&mut before, &mut memory, 100);
+    let saved = before.save().unwrap();
+    let mut loaded = Hba::load(&saved).unwrap();
+    assert_eq!(loaded.save().unwrap(), saved);
+    start(&mut loaded, &mut memory);
+    assert!(read(&mut loaded, &mut memory, 100).denied);
+    assert_eq!(loaded.denial().unwrap(), "1 0 deny read 100+1 range 1 ReadLocked");
+    assert_eq!(Hba::load(&saved[1..]).err(), Some(Error::Malformed));
+}
