@@ -3,7 +3,9 @@
        nbdkit -f -U nbd.sock ./opal-plugin.so sectors=20480 range=1,1024,64,1,1,1,1 control=control.sock
 
    A range is NUMBER,START,LENGTH,ReadLockEnabled,WriteLockEnabled,ReadLocked,WriteLocked, and may be given up to 17 times.
-   The rest are sectors, shadow, msid, profile=field, and with it serial, model and psid. The drive ends with the process.
+   The rest are sectors, shadow, msid, profile=field, and with it serial, model and psid. With drive=FILE the drive is that of FILE,
+   where FILE is there, and goes to FILE when nbdkit ends: PINs and sectors stand in it as they are, and what a drive is can be said
+   of a new one alone. Without it the drive ends with the process.
 
    A read or a write that the drive denies fails with EPERM, one that it fails otherwise with EIO. nbdkit's log has the reason.
 
@@ -18,11 +20,13 @@
 #include <opalport.h>
 
 #include <errno.h>
+#include <fcntl.h>
 #include <pthread.h>
 #include <stdio.h>
 #include <stdlib.h>
 #include <string.h>
 #include <sys/socket.h>
+#include <sys/stat.h>
 #include <sys/un.h>
 #include <unistd.h>
 
@@ -34,7 +38,8 @@ static opal_range rows[RANGES];
 static opal_handle drive = OPAL_NONE;
 static pthread_mutex_t lock = PTHREAD_MUTEX_INITIALIZER; /* over the drive: requests and the control thread share it */
 
-static char *control_path;
+static char *control_path, *drive_path;
+static bool is_described; /* whether a parameter says what the drive is */
 static int listener = -1, caller = -1; /* the control thread's, seen by the thread that ends it */
 static pthread_t control_thread;
 static bool has_control_thread, is_ending;
@@ -59,14 +64,17 @@ static int range_of(const char *value)
 /* nbdkit keeps the texts of parameters as long as the plugin is there. */
 static int opal_plugin_config(const char *key, const char *value)
 {
+    if (strcmp(key, "control") == 0)
+        return (control_path = nbdkit_absolute_path(value)) ? 0 : -1;
+    if (strcmp(key, "drive") == 0)
+        return (drive_path = nbdkit_absolute_path(value)) ? 0 : -1;
+    is_described = true;
     if (strcmp(key, "range") == 0)
         return range_of(value);
     if (strcmp(key, "sectors") == 0)
         return nbdkit_parse_uint64_t(key, value, &config.sectors);
     if (strcmp(key, "shadow") == 0)
         return nbdkit_parse_uint64_t(key, value, &config.shadow);
-    if (strcmp(key, "control") == 0)
-        return (control_path = nbdkit_absolute_path(value)) ? 0 : -1;
     if (strcmp(key, "profile") == 0 && (strcmp(value, "base") == 0 || strcmp(value, "field") == 0))
         config.profile = strcmp(value, "field") == 0;
     else if (strcmp(key, "msid") == 0) {
@@ -260,10 +268,81 @@ static int opens_control(void)
     return 0;
 }
 
+/* The drive in a file */
+
+/* 1 where the drive is that of the file, 0 where there is no file, -1 where it has none. */
+static int loads(void)
+{
+    struct stat about;
+    int status = -1;
+    FILE *file = fopen(drive_path, "re");
+    if (!file && errno == ENOENT)
+        return 0;
+    uint8_t *bytes = file && fstat(fileno(file), &about) == 0 ? malloc((size_t)about.st_size + 1) : NULL;
+    if (!bytes || fread(bytes, 1, (size_t)about.st_size + 1, file) != (size_t)about.st_size)
+        nbdkit_error("%s: %m", drive_path);
+    else if (is_described)
+        nbdkit_error("%s has a drive: what a drive is can be said of a new one alone", drive_path);
+    else {
+        opal_code code = opal_drive_load(&drive, bytes, (size_t)about.st_size);
+        status = code == OPAL_DONE ? 1 : -1;
+        if (code == OPAL_DONE)
+            config.sectors = opal_about_handle(&drive).sectors;
+        else
+            nbdkit_error("%s: %s", drive_path, opal_error_text(code));
+    }
+    free(bytes);
+    if (file)
+        fclose(file);
+    return status;
+}
+
+/* The drive as bytes, which are to be freed; null where it is not saved. */
+static uint8_t *saved(size_t *length)
+{
+    uint8_t least[1];
+    opal_count told = opal_save(&drive, least, sizeof least);
+    uint8_t *bytes = told.code == OPAL_ROOM ? malloc(told.number) : NULL;
+    if (bytes)
+        told = opal_save(&drive, bytes, told.number);
+    *length = told.number;
+    if (told.code == OPAL_DONE)
+        return bytes;
+    free(bytes);
+    return NULL;
+}
+
+/* The file is another one until it is whole: so one that is there stays as it is where anything fails. */
+static void saves(void)
+{
+    size_t length = 0;
+    uint8_t *bytes = saved(&length);
+    char *beside = malloc(strlen(drive_path) + sizeof ".new");
+    if (beside)
+        sprintf(beside, "%s.new", drive_path);
+    errno = ENOMEM;
+    int fd = bytes && beside ? open(beside, O_WRONLY | O_CREAT | O_TRUNC | O_CLOEXEC, S_IRUSR | S_IWUSR) : -1;
+    bool is_done = fd >= 0;
+    for (size_t at = 0; is_done && at < length;) {
+        ssize_t part = write(fd, bytes + at, length - at);
+        is_done = part > 0;
+        at += is_done ? (size_t)part : 0;
+    }
+    if (!is_done || fsync(fd) != 0 || rename(beside, drive_path) != 0)
+        nbdkit_error("%s is not saved: %m", drive_path);
+    if (fd >= 0)
+        close(fd);
+    free(beside);
+    free(bytes);
+}
+
 /* What nbdkit calls */
 
 static int opal_plugin_after_fork(void)
 {
+    int found = drive_path ? loads() : 0;
+    if (found != 0)
+        return found < 0 ? -1 : control_path ? opens_control() : 0;
     if (!config.msid) {
         config.msid = "OPALMSID";
         config.msid_length = 8;
@@ -291,7 +370,10 @@ static void opal_plugin_unload(void)
     }
     if (listener >= 0)
         close(listener);
+    if (drive_path && opal_about_handle(&drive).code == OPAL_DONE)
+        saves();
     free(control_path);
+    free(drive_path);
     opal_free(&drive);
 }
 
@@ -338,7 +420,7 @@ static struct nbdkit_plugin plugin = {
     .name = "opal",
     .longname = "a self-locking drive (TCG Opal)",
     .config = opal_plugin_config,
-    .config_help = "sectors=N, shadow=N, msid=TEXT, range=N,START,LENGTH,RLE,WLE,RL,WL, profile=base|field, control=SOCKET",
+    .config_help = "sectors=N, shadow=N, msid=TEXT, range=N,START,LENGTH,RLE,WLE,RL,WL, profile=base|field, drive=FILE, control=SOCKET",
     .after_fork = opal_plugin_after_fork,
     .unload = opal_plugin_unload,
     .open = opal_plugin_open,

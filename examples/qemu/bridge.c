@@ -22,7 +22,9 @@ static const char usage[] =
     "to be a memory-backend-memfd with share=on.\n"
     "\n"
     "  --image FILE       the first sectors of the drive are those of a raw image\n"
-    "  --save FILE        behind each power-on what the media hold goes to FILE, a raw image; no locks, no PINs\n"
+    "  --save-image FILE  behind each power-on what the media hold goes to FILE, a raw image; no locks, no PINs\n"
+    "  --save FILE        behind each power-on the whole drive goes to FILE, with locks and PINs\n"
+    "  --load FILE        the drive is that of such a FILE; what else a drive is can be said of a new one alone\n"
     "  --sectors N        sectors of 512 bytes (as many as the image has; at least 524288 with opal, else 1000)\n"
     "  --profile NAME     base, field or opal (opal)\n"
     "  --shadow N         how many sectors the shadow MBR can have (262144 with opal, else 8)\n"
@@ -53,8 +55,8 @@ static struct {
     opal_config drive;
     opal_range ranges[RANGES];
     struct line line;
-    const char *image, *save;
-    bool has_sectors, has_shadow, explains, any_version;
+    const char *image, *save_image, *save, *load;
+    bool is_described, has_sectors, has_shadow, explains, any_version;
     int hold;
 } asked = { .drive = OPAL_CONFIG_INIT_OPAL };
 
@@ -89,14 +91,22 @@ void whisper(const char *form, ...)
     va_end(rest);
 }
 
+/* What is to be kept of the drive goes to its files. */
+static bool all_saved(void)
+{
+    bool has_media = !asked.save_image || media_saved(asked.save_image, asked.drive.sectors);
+    bool has_drive = !asked.save || drive_saved(asked.save);
+    return has_media && has_drive;
+}
+
 void stop(const char *form, ...)
 {
     va_list rest;
     va_start(rest, form);
     line_of(form, rest);
     va_end(rest);
-    if (is_on && asked.save)
-        media_saved(asked.save, asked.drive.sectors);
+    if (is_on)
+        all_saved();
     exit(FAULT);
 }
 
@@ -171,10 +181,11 @@ static _Noreturn void version(void)
 }
 
 enum option_name { SECTORS = 256, PROFILE, SHADOW, RANGE, MSID, PSID, SERIAL, MODEL, /* of the drive, and of the bridge: */
-                   IMAGE, SAVE, INTERRUPTS, HOLD, EXPLAIN, ANY, VERBOSE, VERSION, HELP };
+                   IMAGE, SAVE_IMAGE, SAVE, LOAD, INTERRUPTS, HOLD, EXPLAIN, ANY, VERBOSE, VERSION, HELP };
 
 static const struct option options[] = {
     { "image", required_argument, NULL, IMAGE },     { "save", required_argument, NULL, SAVE },
+    { "load", required_argument, NULL, LOAD },       { "save-image", required_argument, NULL, SAVE_IMAGE },
     { "sectors", required_argument, NULL, SECTORS }, { "profile", required_argument, NULL, PROFILE },
     { "shadow", required_argument, NULL, SHADOW },   { "range", required_argument, NULL, RANGE },
     { "msid", required_argument, NULL, MSID },       { "psid", required_argument, NULL, PSID },
@@ -206,7 +217,9 @@ static void takes(int option, const char *value)
 {
     switch (option) {
     case IMAGE: asked.image = value; break;
+    case SAVE_IMAGE: asked.save_image = value; break;
     case SAVE: asked.save = value; break;
+    case LOAD: asked.load = value; break;
     case INTERRUPTS: asked.line = line_by(value); break;
     case HOLD: asked.hold = milliseconds_of(value); break;
     case EXPLAIN: asked.explains = true; break;
@@ -217,10 +230,11 @@ static void takes(int option, const char *value)
     default:
         if (!is_of_drive(option, value))
             exit(USAGE); /* getopt has said what is wrong */
+        asked.is_described = true;
     }
 }
 
-/* What was not said: sizes, by the profile and by the image. */
+/* What was not said of a new drive: sizes, by the profile and by the image. */
 static void completes(void)
 {
     static const opal_config small = OPAL_CONFIG_INIT;
@@ -234,10 +248,35 @@ static void completes(void)
     }
     if (image > drive->sectors)
         stop("%s has %llu sectors, the drive %llu", asked.image, (unsigned long long)image, (unsigned long long)drive->sectors);
-    if (asked.save && drive->sectors > MOST_SAVED)
-        stop("--save is for drives of at most %llu sectors", (unsigned long long)MOST_SAVED);
+}
+
+/* The files that are to be written can be. */
+static void tries_files(void)
+{
+    if (asked.save_image && asked.drive.sectors > MOST_SAVED)
+        stop("--save-image is for drives of at most %llu sectors", (unsigned long long)MOST_SAVED);
+    if (asked.save_image)
+        file_tried(asked.save_image);
     if (asked.save)
-        media_tried(asked.save);
+        file_tried(asked.save);
+}
+
+/* The drive: that of a file, or a new one, with what an image has. */
+static void has_drive(void)
+{
+    if (asked.load) {
+        if (asked.is_described || asked.image)
+            refuse("--load", "and what a drive is: that can be said of a new one alone");
+        drive_load(asked.load, asked.explains);
+        asked.drive.sectors = controller_sectors();
+        tries_files();
+        return;
+    }
+    completes();
+    tries_files();
+    controller_make(&asked.drive, asked.explains);
+    if (asked.image)
+        image_load(asked.image, image_sectors(asked.image));
 }
 
 /* Power-ons */
@@ -298,7 +337,7 @@ static int all_powered(char **words)
         if (!qemu_is_known(words[0]) && !asked.any_version)
             return FAULT;
         status = powered(words);
-        if (asked.save && !media_saved(asked.save, asked.drive.sectors))
+        if (!all_saved())
             return FAULT;
     }
     return status;
@@ -311,11 +350,8 @@ int main(int count, char **words)
         takes(option, optarg);
     if (optind == count || strcmp(words[optind - 1], "--") != 0)
         refuse(optind == count ? "no QEMU" : words[optind], optind == count ? "behind --" : "stands before --");
-    completes();
     memory_none();
-    controller_make(&asked.drive, asked.explains);
-    if (asked.image)
-        image_load(asked.image, image_sectors(asked.image));
+    has_drive();
     waits_for_signals();
     return all_powered(words + optind);
 }

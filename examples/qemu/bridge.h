@@ -26,6 +26,9 @@ uint8_t *memory_at(uint32_t address);
 /* controller.c: the controller, by its registers and its works. */
 enum { GHC = 0x4, PxCLB = 0x100, PxFB = 0x108, PxCMD = 0x118, PxTFD = 0x120, PxSIG = 0x124, PxSACT = 0x134, PxCI = 0x138 };
 void controller_make(const opal_config *config, bool explains);
+void controller_load(const void *saved, size_t length, bool explains);
+uint8_t *controller_saved(size_t *length); /* the drive as bytes, which are to be freed; null where it is not saved */
+uint64_t controller_sectors(void);
 uint32_t controller_read(uint32_t offset);
 void controller_write(uint32_t offset, uint32_t value);
 bool controller_interrupts(void);
@@ -37,11 +40,13 @@ opal_code controller_sector(uint64_t lba, uint8_t *into);
 /* How many commands were fetched, and how many queued ones were held at once at most. */
 extern struct counts { unsigned long commands, held; } controller_counts;
 
-/* media.c: a drive of an image, and an image of a drive. */
+/* media.c: a drive of an image, an image of a drive, and the whole drive in a file. */
 uint64_t image_sectors(const char *path);
 void image_load(const char *path, uint64_t sectors);
-void media_tried(const char *path); /* stops where nothing can be saved there */
+void file_tried(const char *path); /* stops where nothing can be saved there */
 bool media_saved(const char *path, uint64_t sectors);
+void drive_load(const char *path, bool explains);
+bool drive_saved(const char *path);
 
 /* device.c: the PCI function that the guest sees. */
 void device_power_on(void);

@@ -1,6 +1,8 @@
 /* The controller: the library, in this process. */
 #include "bridge.h"
 
+#include <stdlib.h>
+
 enum { LINE = 1024, NO_SIGNATURE = -1 };
 
 static opal_handle hba = OPAL_NONE;
@@ -18,6 +20,32 @@ void controller_make(const opal_config *config, bool explains)
 {
     is_explained = explains;
     must(opal_hba_new(&hba, config), "no drive");
+}
+
+void controller_load(const void *saved, size_t length, bool explains)
+{
+    is_explained = explains;
+    must(opal_hba_load(&hba, saved, length), "no drive");
+}
+
+uint8_t *controller_saved(size_t *length)
+{
+    uint8_t least[1];
+    opal_count told = opal_save(&hba, least, sizeof least);
+    uint8_t *bytes = told.code == OPAL_ROOM ? malloc(told.number) : NULL;
+    if (bytes)
+        told = opal_save(&hba, bytes, told.number);
+    if (told.code != OPAL_DONE) {
+        free(bytes);
+        return NULL;
+    }
+    *length = told.number;
+    return bytes;
+}
+
+uint64_t controller_sectors(void)
+{
+    return opal_about_handle(&hba).sectors;
 }
 
 uint32_t controller_read(uint32_t offset)

@@ -1,12 +1,13 @@
-/* A drive of an image, and an image of a drive. The image is written by a host of the bridge's own, before the guest: by WRITE
-   DMA EXT, as any driver would. What is saved is what the media hold, whatever is locked or shadowed; no cell of a table, no PIN
-   and no byte of the shadow MBR. */
+/* A drive of an image, an image of a drive, and the whole drive in a file. The image is written by a host of the bridge's own,
+   before the guest: by WRITE DMA EXT, as any driver would. An image that is saved is what the media hold, whatever is locked or
+   shadowed; no cell of a table, no PIN and no byte of the shadow MBR. The whole drive has all of these (opal_save). */
 #define _GNU_SOURCE
 #include "bridge.h"
 
 #include <errno.h>
 #include <fcntl.h>
 #include <stdio.h>
+#include <stdlib.h>
 #include <string.h>
 #include <sys/stat.h>
 #include <unistd.h>
@@ -106,7 +107,7 @@ static int opens_beside(const char *path, char *beside, size_t room)
     return open(beside, O_WRONLY | O_CREAT | O_TRUNC | O_CLOEXEC, S_IRUSR | S_IWUSR);
 }
 
-void media_tried(const char *path)
+void file_tried(const char *path)
 {
     char beside[LONGEST];
     int fd = opens_beside(path, beside, sizeof beside);
@@ -116,16 +117,53 @@ void media_tried(const char *path)
     unlink(beside);
 }
 
+/* Tells whether the file beside it has become the one that is asked for. */
+static bool is_kept(const char *path, const char *beside, int fd, bool is_done, const char *what)
+{
+    is_done = is_done && rename(beside, path) == 0;
+    if (!is_done)
+        tell("%s is not saved: %s", path, strerror(errno));
+    else
+        tell("%s has %s", path, what);
+    if (fd >= 0)
+        close(fd);
+    return is_done;
+}
+
 bool media_saved(const char *path, uint64_t sectors)
 {
     char beside[LONGEST];
     int fd = opens_beside(path, beside, sizeof beside);
-    bool is_done = fd >= 0 && is_written(fd, sectors) && rename(beside, path) == 0;
-    if (!is_done)
-        tell("%s is not saved: %s", path, strerror(errno));
-    else
-        tell("%s has the media of the drive", path);
-    if (fd >= 0)
-        close(fd);
-    return is_done;
+    return is_kept(path, beside, fd, fd >= 0 && is_written(fd, sectors), "the media of the drive");
+}
+
+/* The whole drive */
+
+void drive_load(const char *path, bool explains)
+{
+    struct stat about;
+    FILE *file = fopen(path, "re");
+    uint8_t *bytes = file && fstat(fileno(file), &about) == 0 ? malloc((size_t)about.st_size + 1) : NULL;
+    if (!bytes || fread(bytes, 1, (size_t)about.st_size + 1, file) != (size_t)about.st_size)
+        stop("%s: %s", path, errno != 0 ? strerror(errno) : "it changes");
+    fclose(file);
+    controller_load(bytes, (size_t)about.st_size, explains);
+    free(bytes);
+}
+
+bool drive_saved(const char *path)
+{
+    char beside[LONGEST];
+    size_t length = 0;
+    uint8_t *bytes = controller_saved(&length);
+    int fd = opens_beside(path, beside, sizeof beside);
+    errno = bytes ? errno : ENOMEM;
+    bool is_done = bytes && fd >= 0;
+    for (size_t at = 0; is_done && at < length;) {
+        ssize_t part = write(fd, bytes + at, length - at);
+        is_done = part > 0;
+        at += is_done ? (size_t)part : 0;
+    }
+    free(bytes);
+    return is_kept(path, beside, fd, is_done && fsync(fd) == 0, "the whole drive");
 }
