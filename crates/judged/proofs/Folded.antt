@@ -7,8 +7,8 @@ use Rattle.runs.specs.declared.recorded.stepped.SteppedRun.{SteppedRun}
 use Rattle.tool.specs.Scripts.{script_lines}
 use Rattle.judged.specs.Answers.{text_behind, reasons_told}
 use Rattle.judged.specs.Benches.{ScriptsGoOn}
-use Rattle.judged.specs.Blanks.{other_text, first_answer}
-use Rattle.judged.specs.Judgements.{are_same, freedom_of, verdict_beside, through, printed_at, own_reasons, can_change, said_at, wanted_at, freedom_at, ruling_at, rulings_at, answers_agree, agreement_of, pairs_behind, entry_added, with_models_entry, with_entry, nothing_judged, judging_of}
+use Rattle.judged.specs.Blanks.{other_text, other_config, first_answer}
+use Rattle.judged.specs.Judgements.{are_same, freedom_of, verdict_beside, through, printed_at, own_reasons, said_at, wanted_at, freedom_at, ruling_of, ruling_at, rulings_at, answers_agree, agreement_of, pairs_behind, entry_added, with_models_entry, with_entry, nothing_judged, judging_of}
 use Rattle.judged.specs.SessionNumbers.{number_told}
 use Rattle.judged.specs.SessionPairs.{as_model}
 use Rattle.judged.specs.Transcripts.{entry_text}
@@ -29,7 +29,7 @@ three said explained other = record { said = said; explained = explained; other 
 pub printed-so : (config : Config) (judging : Judging) (entry : Entry) (said explained other : List ℕ)
     → said ≡ text_behind false config judging.script (through judging.script entry)
     → explained ≡ text_behind true config judging.script (through judging.script entry)
-    → other ≡ text_behind false config judging.other (judging.other ++ other_text entry)
+    → other ≡ text_behind false (other_config config) judging.other (judging.other ++ other_text entry)
     → three said explained other ≡ printed_at config judging entry
 printed-so config judging entry said explained other is_said is_explained is_other =
     ap (λ s. three s explained other) is_said
@@ -114,10 +114,10 @@ agreed_at freedoms pairs asked entry printed plain agree = at (length entry.answ
 
     at : (t : Bool) → (t || are_same entry.answers (said_at entry printed)) ≡ true
         → cond t [] (ruling_at freedoms pairs asked entry printed ∷ [])
-        ≡ cond t [] (record { number = entry.number; changes = can_change entry.line; verdict = Agrees } ∷ [])
+        ≡ cond t [] (ruling_of entry Agrees ∷ [])
     at true is = refl
     at false is =
-        ap (λ v. record { number = entry.number; changes = can_change entry.line; verdict = v } ∷ [])
+        ap (λ v. ruling_of entry v ∷ [])
         (same (are_same entry.answers (wanted_at pairs entry printed))
         (ap (are_same entry.answers) (lines-plain pairs (said_at entry printed) plain) ∙ is))
 

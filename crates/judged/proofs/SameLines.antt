@@ -3,7 +3,7 @@ use Rattle.std.proofs.Common.{◌≡◌, ◌≢◌, ℕ, suc, Bool, true, false,
 use Rattle.std.proofs.lemmas.Bool.{false≢true}
 use Rattle.std.proofs.lemmas.Slice.Eq.{bytes_eq-Decides}
 use Rattle.judged.specs.Judgements.{are_same}
-use Rattle.judged.specs.Blanks.{differs_in_blanks, may_be}
+use Rattle.judged.specs.Blanks.{differs_in_blanks, may_be, differs_in_random, may_be_random}
 use Rattle.judged.specs.Freedoms.{differs_within, may_stand}
 use Rattle.judged.specs.declared.freedom.Span.{Span}
 
@@ -67,3 +67,23 @@ other_shorter (x ∷ xs) [] zs differs = refl
 other_shorter (x ∷ xs) (y ∷ ys) [] differs = refl
 other_shorter (x ∷ xs) (y ∷ ys) (z ∷ zs) differs =
     and-false (may_be x y z) (differs_in_blanks xs ys zs) (other_shorter xs ys zs (λ e. differs (ap suc e)))
+
+-- the same of random bytes
+pub wanted_too_short : (place : ℕ) (xs ys zs : List ℕ) → length ys ≢ length xs → differs_in_random place xs ys zs ≡ false
+wanted_too_short place [] [] zs differs = absurd (differs refl)
+wanted_too_short place [] (y ∷ ys) zs differs = refl
+wanted_too_short place (x ∷ xs) [] zs differs = refl
+wanted_too_short place (x ∷ xs) (y ∷ ys) [] differs = refl
+wanted_too_short place (x ∷ xs) (y ∷ ys) (z ∷ zs) differs =
+    and-false (may_be_random place x y z) (differs_in_random (suc place) xs ys zs)
+    (wanted_too_short (suc place) xs ys zs (λ e. differs (ap suc e)))
+
+pub other_too_short : (place : ℕ) (xs ys zs : List ℕ) → length zs ≢ length xs → differs_in_random place xs ys zs ≡ false
+other_too_short place [] [] [] differs = absurd (differs refl)
+other_too_short place [] [] (z ∷ zs) differs = refl
+other_too_short place [] (y ∷ ys) zs differs = refl
+other_too_short place (x ∷ xs) [] zs differs = refl
+other_too_short place (x ∷ xs) (y ∷ ys) [] differs = refl
+other_too_short place (x ∷ xs) (y ∷ ys) (z ∷ zs) differs =
+    and-false (may_be_random place x y z) (differs_in_random (suc place) xs ys zs)
+    (other_too_short (suc place) xs ys zs (λ e. differs (ap suc e)))

@@ -5,7 +5,7 @@ use Rattle.judged.specs.Freedoms.{is_by, freedom_between}
 use Rattle.judged.specs.Judgements.{are_same, freedom_of, verdict_beside, is_agreement, is_allowance, is_wrong}
 use Rattle.judged.specs.Laws.{AgreesLaw, AllowsLaw, WrongLaw, NamesLaw, DiffersBy}
 use Rattle.judged.specs.declared.freedom.Freedom.{Freedom}
-use Rattle.judged.specs.declared.freedom.Freedom.TheVariants.{ErrorBits, BlankSectors, VendorBytes, Identity, SessionNumbers}
+use Rattle.judged.specs.declared.freedom.Freedom.TheVariants.{ErrorBits, BlankSectors, VendorBytes, Identity, SessionNumbers, ComIds, RandomBytes}
 use Rattle.judged.specs.declared.ruling.Verdict.{Verdict}
 use Rattle.judged.specs.declared.ruling.Verdict.TheVariants.{Agrees, Allowed, Wrong}
 use Rattle.judged.proofs.SameLines.{are_same-Decides}
@@ -57,6 +57,12 @@ missed p [] f e passes among = absurd (omega (arith, among.1))
 missed p (g ∷ gs) f e passes among =
     missed-cons p g gs f (p g) refl (λ none. missed p gs f none passes) passes e among.0 among.1 among.2
 
+-- the first freedom by which lines differ
+between_is : (freedoms : List Freedom) (asked x y other : List ℕ)
+    → freedom_between freedoms asked x y other ≡ find (is_by asked x y other) freedoms
+unfolding freedom_between
+between_is freedoms asked x y other = refl
+
 -- the freedom by which answers differ
 freed : (freedoms : List Freedom) (asked : List ℕ) (heard wanted : List (List ℕ)) (other : List ℕ) (f : Freedom)
     → freedom_of freedoms asked heard wanted other ≡ Some f → Contains freedoms f × DiffersBy asked heard wanted other f
@@ -67,7 +73,7 @@ freed freedoms asked (x ∷ xs) (y ∷ ys) other f e = at (are_same xs ys) refl 
     at : (t : Bool) → are_same xs ys ≡ t → cond t (freedom_between freedoms asked x y other) None ≡ Some f
         → Contains freedoms f × DiffersBy asked (x ∷ xs) (y ∷ ys) other f
     at true same e =
-        let r = found (is_by asked x y other) freedoms f e in
+        let r = found (is_by asked x y other) freedoms f (sym (between_is freedoms asked x y other) ∙ e) in
         (r.0, (x, y, xs, refl, ap (λ zs. y ∷ zs) (sym ((are_same-Decides xs ys).0 same)), r.1))
     at false same e = absurd (false≢true (ap is_some e))
 
@@ -79,7 +85,7 @@ not_freed freedoms asked heard wanted other f e among (x, y, rest, is_heard, is_
     sym (ap (λ hs. freedom_of freedoms asked hs (y ∷ rest) other) is_heard) ∙ sym (ap (λ ws. freedom_of freedoms asked heard ws other) is_wanted) ∙ e in
     let same : are_same rest rest ≡ true = (are_same-Decides rest rest).1 refl in
     missed (is_by asked x y other) freedoms f
-    (sym (ap (λ t. cond t (freedom_between freedoms asked x y other) None) same) ∙ none) by among
+    (sym (between_is freedoms asked x y other) ∙ sym (ap (λ t. cond t (freedom_between freedoms asked x y other) None) same) ∙ none) by among
 
 pub allows : AllowsLaw
 allows freedoms asked heard wanted other reasons freedom e = at (are_same heard wanted) refl e
@@ -126,3 +132,5 @@ named BlankSectors = refl
 named VendorBytes = refl
 named Identity = refl
 named SessionNumbers = refl
+named ComIds = refl
+named RandomBytes = refl

@@ -1,7 +1,11 @@
--- Sectors that nothing has written: what is read of them stands whatever bytes the writes before wrote.
-use Rattle.std.specs.Prelude.{ℕ, ◌-◌, ◌==◌, nat_le, Bool, true, false, ◌&&◌, ◌||◌, List, [], ◌∷◌, ◌++◌, map, take, length, codes, Option, None, Some, if◌then◌else◌}
+-- Sectors that nothing has written: what is read of them stands whatever bytes the writes before wrote. And random bytes,
+-- which are others by another seed.
+use Rattle.std.specs.Prelude.{ℕ, suc, ◌+◌, ◌-◌, ◌*◌, ◌^◌, ◌%◌, ◌==◌, nat_le, Bool, true, false, not, ◌&&◌, ◌||◌, List, [], ◌∷◌, ◌++◌, map, take, length, codes, Option, None, Some, if◌then◌else◌}
 use Rattle.std.specs.Str.{bytes_eq}
 use Rattle.script_lines.specs.Words.{nth_word, after_words}
+use Rattle.sp_cells.specs.Config.{Config, seeded_config}
+use Rattle.compacket.specs.Frames.{headers_size}
+use Rattle.judged.specs.SessionNumbers.{data_place}
 use Rattle.judged.specs.Transcripts.{with_line_end, remarks_text}
 use Rattle.judged.specs.declared.entry.Entry.{Entry}
 
@@ -80,3 +84,36 @@ differs_in_blanks (x ∷ xs) (y ∷ ys) (z ∷ zs) =
 abbrev pub differs_by_blanks : List ℕ → List ℕ → List ℕ → Bool
 differs_by_blanks heard wanted other =
     bytes_eq (take 3 wanted) (codes "ok ") && differs_in_blanks heard wanted other
+
+-- A drive whose random bytes are others. A byte is the top byte of a sum with the seed, so that each one has 88h more, and
+-- both of its digits are others.
+abbrev pub other_seed : ℕ → ℕ
+other_seed seed = (seed + 0x88 * 2 ^ 56) % 2 ^ 64
+
+abbrev pub other_config : Config → Config
+other_config config = seeded_config config (other_seed config.seed)
+
+-- a digit of tokens, behind the headers, at its place of a line `data HEX`, for one that is another where random bytes are
+-- others
+abbrev pub is_random_digit : ℕ → ℕ → ℕ → ℕ → Bool
+is_random_digit place heard wanted other =
+    nat_le (data_place + 2 * headers_size) place && is_digit heard && not (wanted == other)
+
+abbrev pub may_be_random : ℕ → ℕ → ℕ → ℕ → Bool
+may_be_random place heard wanted other =
+    heard == wanted || is_random_digit place heard wanted other
+
+-- two lines, from this place on, differ in such digits alone
+abbrev pub differs_in_random : ℕ → List ℕ → List ℕ → List ℕ → Bool
+differs_in_random place [] [] [] = true
+differs_in_random place [] [] (z ∷ zs) = false
+differs_in_random place [] (y ∷ ys) other = false
+differs_in_random place (x ∷ xs) [] other = false
+differs_in_random place (x ∷ xs) (y ∷ ys) [] = false
+differs_in_random place (x ∷ xs) (y ∷ ys) (z ∷ zs) =
+    may_be_random place x y z && differs_in_random (suc place) xs ys zs
+
+-- a response that differs in such digits alone
+abbrev pub differs_by_random : List ℕ → List ℕ → List ℕ → Bool
+differs_by_random heard wanted other =
+    bytes_eq (take 5 wanted) (codes "data ") && differs_in_random 0 heard wanted other

@@ -6,11 +6,11 @@ use Rattle.basics.specs.Sums.{byte_sum}
 use Rattle.hex.specs.Hex.{decode_sized}
 use Rattle.hex.specs.declared.error.FromHexError.{FromHexError}
 use Rattle.script_lines.specs.Words.{nth_word}
-use Rattle.judged.specs.Blanks.{is_digit, differs_by_blanks}
+use Rattle.judged.specs.Blanks.{is_digit, differs_by_blanks, differs_by_random}
 use Rattle.judged.specs.SessionNumbers.{data_place, differs_by_number}
 use Rattle.judged.specs.declared.freedom.Freedom.{Freedom}
 use Rattle.judged.specs.declared.freedom.Span.{Span}
-use Rattle.judged.specs.declared.freedom.Freedom.TheVariants.{ErrorBits, BlankSectors, VendorBytes, Identity, SessionNumbers}
+use Rattle.judged.specs.declared.freedom.Freedom.TheVariants.{ErrorBits, BlankSectors, VendorBytes, Identity, SessionNumbers, ComIds, RandomBytes}
 
 -- The bits of the Error field to which ACS-3 (section 6.3) gives a meaning for a drive: the CRC of the
 -- interface (7), an uncorrectable error (6), ID not found (4) and abort (2). The others are obsolete, or
@@ -77,6 +77,27 @@ abbrev pub asks_level0 : List ℕ → Bool
 asks_level0 line =
     bytes_eq (nth_word 0 line) (codes "recv") && bytes_eq (nth_word 2 line) (codes "1")
 
+-- The descriptor of the Opal SSC V2 feature (Opal SSC 2.01, section 3.1.1.5), where it stands at byte 112 of Level 0: behind its
+-- code 0203h stand, from byte 116 on, the first of the drive's ComIDs, and how many there are. ComIDs that are given out begin
+-- at 1000h (Core 2.01, section 3.3.2.1), and a drive has one at least.
+abbrev pub com_id_spans : List Span
+com_id_spans = record { first = 116; limit = 120 } ∷ []
+
+-- so many hex digits of a line `data HEX`, from those of a byte on
+abbrev pub digits_at : ℕ → ℕ → List ℕ → List ℕ
+digits_at first count line = take count (drop (data_place + 2 * first) line)
+
+abbrev pub has_opal_feature : List ℕ → Bool
+has_opal_feature line = bytes_eq (digits_at 112 4 line) (codes "0203")
+
+abbrev pub has_com_ids : List ℕ → Bool
+has_com_ids line = not (bytes_eq (digits_at 116 1 line) (codes "0"))
+    && not (bytes_eq (digits_at 118 4 line) (codes "0000"))
+
+abbrev pub differs_by_com_ids : List ℕ → List ℕ → List ℕ → Bool
+differs_by_com_ids asked heard wanted = asks_level0 asked && has_opal_feature wanted
+    && differs_within com_id_spans 0 heard wanted && has_com_ids heard
+
 -- IDENTIFY DEVICE data (ACS-3): words 10 to 19 are the serial number, 23 to 26 the firmware's version, 27
 -- to 46 the model number, 108 to 111 the World Wide Name, and 255, which a drive need not have, a checksum
 abbrev pub identity_spans : List Span
@@ -106,7 +127,7 @@ abbrev pub asks_identity : List ℕ → Bool
 asks_identity line = bytes_eq (nth_word 0 line) (codes "identify")
 
 -- The answer of a drive to a line differs from the model's by this freedom alone. `other` is what the
--- model answers where every write before wrote another byte. What a sector holds that nothing has
+-- model answers where every write before wrote another byte, and random bytes are others. What a sector holds that nothing has
 -- written, or that an erasure wiped, no command of ACS-3 says, nor does Opal SSC 2.01 (section 5.1.2).
 abbrev pub is_by : List ℕ → List ℕ → List ℕ → List ℕ → Freedom → Bool
 is_by asked heard wanted other ErrorBits = differs_by_error_bits heard wanted
@@ -116,9 +137,11 @@ is_by asked heard wanted other VendorBytes =
 is_by asked heard wanted other Identity =
     asks_identity asked && differs_within identity_spans 0 heard wanted && line_adds_up heard
 is_by asked heard wanted other SessionNumbers = differs_by_number heard wanted
+is_by asked heard wanted other ComIds = differs_by_com_ids asked heard wanted
+is_by asked heard wanted other RandomBytes = differs_by_random heard wanted other
 
 -- the first of the freedoms that are given by which it does
-abbrev pub freedom_between : List Freedom → List ℕ → List ℕ → List ℕ → List ℕ → Option Freedom
+unfoldable pub freedom_between : List Freedom → List ℕ → List ℕ → List ℕ → List ℕ → Option Freedom
 freedom_between freedoms asked heard wanted other = find (is_by asked heard wanted other) freedoms
 
 -- the names of freedoms
@@ -128,9 +151,12 @@ freedom_name BlankSectors = codes "blank-sectors"
 freedom_name VendorBytes = codes "vendor-bytes"
 freedom_name Identity = codes "identity"
 freedom_name SessionNumbers = codes "session-numbers"
+freedom_name ComIds = codes "com-ids"
+freedom_name RandomBytes = codes "random-bytes"
 
 abbrev pub all_freedoms : List Freedom
-all_freedoms = ErrorBits ∷ BlankSectors ∷ VendorBytes ∷ Identity ∷ SessionNumbers ∷ []
+all_freedoms = ErrorBits ∷ BlankSectors ∷ VendorBytes ∷ Identity ∷ SessionNumbers ∷ ComIds
+    ∷ RandomBytes ∷ []
 
 abbrev pub freedom_named : List ℕ → Option Freedom
 freedom_named name =
@@ -139,6 +165,8 @@ freedom_named name =
     else if bytes_eq name (codes "vendor-bytes") then Some VendorBytes
     else if bytes_eq name (codes "identity") then Some Identity
     else if bytes_eq name (codes "session-numbers") then Some SessionNumbers
+    else if bytes_eq name (codes "com-ids") then Some ComIds
+    else if bytes_eq name (codes "random-bytes") then Some RandomBytes
     else None
 
 -- the freedoms of these names, where each is one

@@ -8,7 +8,7 @@ use Rattle.tool.specs.Scripts.{script_lines}
 use Rattle.script_lines.specs.Words.{nth_word}
 use Rattle.judged.specs.Transcripts.{own_line_text, entry_text, entries_of}
 use Rattle.judged.specs.Answers.{text_behind, is_receiving, reasons_told, wanted_of}
-use Rattle.judged.specs.Blanks.{other_text, first_answer}
+use Rattle.judged.specs.Blanks.{other_text, other_config, first_answer}
 use Rattle.judged.specs.Freedoms.{asks_level0, freedom_between, freedom_name}
 use Rattle.judged.specs.SessionNumbers.{number_told}
 use Rattle.judged.specs.SessionPairs.{drives_lines, as_model, pairs_with}
@@ -73,12 +73,13 @@ abbrev pub through : List ℕ → Entry → List ℕ
 through before entry = before ++ own_line_text entry
 
 -- what the model prints for the line of an entry behind the script before it; the same where reasons are
--- told; and what it prints where every write before wrote another byte
+-- told; and what it prints where every write before wrote another byte, and random bytes are others
 abbrev pub printed_at : Config → Judging → Entry → Printed
 printed_at config judging entry = record {
   said = text_behind false config judging.script (through judging.script entry);
   explained = text_behind true config judging.script (through judging.script entry);
-  other = text_behind false config judging.other (judging.other ++ other_text entry);
+  other = text_behind false (other_config config) judging.other
+      (judging.other ++ other_text entry);
 }
 
 -- the reasons of what it prints, which stand behind it where reasons are told
@@ -119,12 +120,32 @@ can_change line = not (bytes_eq (nth_word 0 line) (codes "dread")
     || bytes_eq (nth_word 0 line) (codes "range") || bytes_eq (nth_word 0 line) (codes "port")
     || bytes_eq (nth_word 0 line) (codes "expect")) && not (asks_level0 line)
 
-abbrev pub ruling_at : List Freedom → List SessionPair → List ℕ → Entry → Printed → Ruling
-ruling_at freedoms pairs asked entry printed = record {
+abbrev pub is_agreement : Verdict → Bool
+is_agreement Agrees = true
+is_agreement (Allowed freedom) = false
+is_agreement (Wrong text) = false
+
+abbrev pub is_allowance : Verdict → Bool
+is_allowance Agrees = false
+is_allowance (Allowed freedom) = true
+is_allowance (Wrong text) = false
+
+abbrev pub is_wrong : Verdict → Bool
+is_wrong Agrees = false
+is_wrong (Allowed freedom) = false
+is_wrong (Wrong text) = true
+
+-- the answers to a line, judged so; a wrong one to such a line may be a cause of others
+abbrev pub ruling_of : Entry → Verdict → Ruling
+ruling_of entry verdict = record {
   number = entry.number;
-  changes = can_change entry.line;
-  verdict = entry_verdict freedoms pairs asked entry printed;
+  is_cause = is_wrong verdict && can_change entry.line;
+  verdict = verdict;
 }
+
+abbrev pub ruling_at : List Freedom → List SessionPair → List ℕ → Entry → Printed → Ruling
+ruling_at freedoms pairs asked entry printed =
+    ruling_of entry (entry_verdict freedoms pairs asked entry printed)
 
 -- a line without answers is not judged: what the drive said was not seen, and is taken for the model's
 abbrev pub rulings_at : List Freedom → List SessionPair → List ℕ → Entry → Printed → List Ruling
@@ -138,8 +159,7 @@ answers_agree entry said = length entry.answers == 0
 
 -- then it is judged so
 abbrev pub agreement_of : Entry → List Ruling
-agreement_of entry = if length entry.answers == 0 then []
-    else record { number = entry.number; changes = can_change entry.line; verdict = Agrees } ∷ []
+agreement_of entry = if length entry.answers == 0 then [] else ruling_of entry Agrees ∷ []
 
 -- the reasons of the last line that does not receive
 abbrev pub asked_behind : List ℕ → Entry → Printed → List ℕ
@@ -178,21 +198,6 @@ abbrev pub script_status : Config → List Freedom → List Entry → ℕ
 script_status config freedoms entries =
     (run_outcome_of config (judging_of config freedoms entries).script).status
 
-abbrev pub is_agreement : Verdict → Bool
-is_agreement Agrees = true
-is_agreement (Allowed freedom) = false
-is_agreement (Wrong text) = false
-
-abbrev pub is_allowance : Verdict → Bool
-is_allowance Agrees = false
-is_allowance (Allowed freedom) = true
-is_allowance (Wrong text) = false
-
-abbrev pub is_wrong : Verdict → Bool
-is_wrong Agrees = false
-is_wrong (Allowed freedom) = false
-is_wrong (Wrong text) = true
-
 -- how many answers were judged so
 abbrev pub how_many : (Verdict → Bool) → List Ruling → ℕ
 how_many test rulings = count_by (λ (ruling : Ruling). test ruling.verdict) rulings
@@ -206,15 +211,11 @@ verdict_text false number (Allowed freedom) =
 verdict_text quiet number (Wrong text) =
     codes "line " ++ decimal number ++ codes ": wrong: " ++ text
 
--- a wrong answer that may be a cause of others
-abbrev pub is_cause : Ruling → Bool
-is_cause ruling = is_wrong ruling.verdict && ruling.changes
-
--- the line of the first of them
+-- the line of the first cause
 abbrev pub first_cause : List Ruling → Option ℕ
 first_cause [] = None
 first_cause (ruling ∷ rulings) =
-    if is_cause ruling then Some ruling.number else first_cause rulings
+    if ruling.is_cause then Some ruling.number else first_cause rulings
 
 -- from which line an answer may follow
 abbrev pub follow_text : Option ℕ → ℕ → List ℕ

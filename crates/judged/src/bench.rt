@@ -7,7 +7,7 @@ ghost use Rattle.judged.specs.Judgements.{through};
 ghost use Rattle.judged.specs.Transcripts.{entry_text};
 
 use crate::answers::print_text;
-use crate::blanks::append_other_text;
+use crate::blanks::{append_other_text, other_options};
 use crate::entry::Entry;
 use crate::text::Text;
 use runs::recorded::SteppedRun;
@@ -20,7 +20,7 @@ pub struct Printed {
     pub said: Text,
     /// The same where reasons are told.
     pub explained: Text,
-    /// What it prints where every write before wrote another byte.
+    /// What it prints where every write before wrote another byte, and random bytes are others.
     pub other: Text,
 }
 
@@ -31,7 +31,7 @@ pub struct Bench {
     model: SteppedRun,
     /// The same, with reasons.
     explained: SteppedRun,
-    /// The script with another byte in each line that writes one.
+    /// The script with another byte in each line that writes one, on a drive whose random bytes are others.
     other: SteppedRun,
 }
 
@@ -100,7 +100,8 @@ impl Bench {
         let explained = print_entry(alloc, options, &mut self.explained, entry)?;
         let mut text = Text::new(alloc);
         append_other_text(&mut text, entry)?;
-        let other = print_text(alloc, options, &mut self.other, text.as_slice())?;
+        let others = other_options(options);
+        let other = print_text(alloc, &others, &mut self.other, text.as_slice())?;
         Ok(Printed {
             said,
             explained,

@@ -1,14 +1,17 @@
-//! Sectors that nothing has written: what is read of them stands whatever bytes the writes before wrote.
+//! Sectors that nothing has written: what is read of them stands whatever bytes the writes before wrote. And random bytes, which
+//! are others by another seed.
 
 ghost use Rattle.std.specs.Prelude.{◌≡◌, ◌++◌, map, take, OnOk, IfOk};
 ghost use Rattle.script_lines.specs.Words.{after_words};
-ghost use Rattle.judged.specs.Blanks.{other_digit, byte_place, with_other_digits, other_line, expects, other_text, first_answer, is_digit, is_blank_digit, may_be, differs_in_blanks, differs_by_blanks};
+ghost use Rattle.judged.specs.Blanks.{other_digit, byte_place, with_other_digits, other_line, expects, other_text, first_answer, is_digit, is_blank_digit, may_be, differs_in_blanks, differs_by_blanks, other_seed, other_config, is_random_digit, may_be_random, differs_in_random, differs_by_random};
 
 use crate::entry::Entry;
+use crate::received::DATA_PLACE;
 use crate::text::Text;
 use basics::Bytes;
 use script_lines::Words;
 use std::alloc::{AllocError, Global};
+use tool::Options;
 
 /// A hex digit for another one, of which no bit is the same; any other byte stays.
 fn other_digit(byte: u8) -> u8
@@ -168,4 +171,65 @@ pub(crate) fn differs_by_blanks(heard: &[u8], wanted: &[u8], other: &[u8]) -> bo
     ensures { result ≡ differs_by_blanks heard.now wanted.now other.now }
 {
     front(wanted, 3) == b"ok ".as_slice() && differs_in_blanks(heard, wanted, other)
+}
+
+/// What a seed has more by which both digits of each random byte are others.
+const SEED_ADDED: u64 = 0x88 << 56;
+
+/// How many bytes the headers of a response have, in front of its tokens (TCG Core 2.01, section 3.2.3).
+const HEADERS_SIZE: usize = 56;
+
+/// Another seed, by which all random bytes are others.
+fn other_seed(seed: u64) -> u64
+    ensures { result ≡ other_seed seed }
+{
+    seed.wrapping_add(SEED_ADDED)
+}
+
+/// The same drive, whose random bytes are others.
+pub(crate) fn other_options(options: &Options) -> Options
+    ensures { result ≡ other_config options.now }
+{
+    options.with_seed(other_seed(options.config().seed()))
+}
+
+/// Whether a digit of tokens, at its place of a line `data HEX`, stands for one that is another where random bytes are others.
+fn is_random_digit(place: usize, heard: u8, wanted: u8, other: u8) -> bool
+    ensures { result ≡ is_random_digit place heard wanted other }
+{
+    DATA_PLACE + 2 * HEADERS_SIZE <= place && is_digit(heard) && wanted != other
+}
+
+/// Whether a byte may stand at a place where another is wanted.
+fn may_be_random(place: usize, heard: u8, wanted: u8, other: u8) -> bool
+    ensures { result ≡ may_be_random place heard wanted other }
+{
+    heard == wanted || is_random_digit(place, heard, wanted, other)
+}
+
+/// Whether two lines differ in such digits alone.
+fn differs_in_random(heard: &[u8], wanted: &[u8], other: &[u8]) -> bool
+    ensures { result ≡ differs_in_random 0 heard.now wanted.now other.now }
+{
+    let size = heard.len();
+    if wanted.len() != size {
+        return false;
+    }
+    if other.len() != size {
+        return false;
+    }
+    for i in 0..size {
+        if !may_be_random(i, heard[i], wanted[i], other[i]) {
+            return false;
+        }
+    }
+    true
+}
+
+/// Whether a response differs from the model's in such digits alone, where the model answers `other` if random bytes are
+/// others.
+pub(crate) fn differs_by_random(heard: &[u8], wanted: &[u8], other: &[u8]) -> bool
+    ensures { result ≡ differs_by_random heard.now wanted.now other.now }
+{
+    front(wanted, DATA_PLACE) == b"data ".as_slice() && differs_in_random(heard, wanted, other)
 }

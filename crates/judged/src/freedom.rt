@@ -1,9 +1,10 @@
 //! What the standards leave to a drive.
 
 ghost use Rattle.std.specs.Prelude.{◌≡◌};
-ghost use Rattle.judged.specs.Freedoms.{error_in, are_open_bits, are_open_errors, differs_by_error_bits, has_digit, has_some_digit, may_stand, differs_within, asks_level0, asks_identity, line_adds_up};
+ghost use Rattle.judged.specs.Freedoms.{error_in, are_open_bits, are_open_errors, differs_by_error_bits, has_digit, has_some_digit, may_stand, differs_within, asks_level0, digits_at, has_opal_feature, has_com_ids, differs_by_com_ids, asks_identity, line_adds_up};
 
-use crate::blanks::{differs_by_blanks, front, is_digit};
+use crate::answers::behind;
+use crate::blanks::{differs_by_blanks, differs_by_random, front, is_digit};
 use crate::received::{DATA_PLACE, differs_by_number};
 use basics::byte_sum;
 use script_lines::Words;
@@ -27,6 +28,11 @@ pub enum Freedom {
     /// The number that the TPer gives a session (TCG Core 2.01, sections 3.3.7.1.3 and 5.2.3): an answer that hands out another
     /// one differs by it. The answers behind it have that number.
     SessionNumbers,
+    /// The first of the ComIDs, and how many there are, in the descriptor of the Opal SSC V2 feature of Level 0 discovery (Opal
+    /// SSC 2.01, section 3.1.1.5).
+    ComIds,
+    /// The bytes that Random gives (TCG Core 2.01, section 5.6.4.1).
+    RandomBytes,
 }
 
 /// The bits of the Error field that have a meaning.
@@ -39,12 +45,14 @@ const ABORT_BIT: u8 = 4;
 const ERROR_PLACE: usize = 8;
 
 /// All that the model knows.
-const ALL_FREEDOMS: [Freedom; 5] = [
+const ALL_FREEDOMS: [Freedom; 7] = [
     Freedom::ErrorBits,
     Freedom::BlankSectors,
     Freedom::VendorBytes,
     Freedom::Identity,
     Freedom::SessionNumbers,
+    Freedom::ComIds,
+    Freedom::RandomBytes,
 ];
 
 /// The error in a line `fail 51 04`.
@@ -179,6 +187,43 @@ pub(crate) fn asks_level0(line: &[u8]) -> bool
     verb == b"recv".as_slice() && words.next_word() == b"1".as_slice()
 }
 
+/// The first of the ComIDs, and how many there are.
+const COM_ID_SPANS: [Span; 1] = [Span {
+    first: 116,
+    limit: 120,
+}];
+
+/// So many hex digits of a line `data HEX`, from those of a byte on.
+fn digits_at(line: &[u8], first: u16, count: usize) -> &[u8]
+    ensures { result.now ≡ digits_at first count line.now }
+{
+    front(behind(line, DATA_PLACE + 2 * first as usize), count)
+}
+
+/// Whether Level 0 has the Opal SSC V2 feature at byte 112.
+fn has_opal_feature(line: &[u8]) -> bool
+    ensures { result ≡ has_opal_feature line.now }
+{
+    digits_at(line, 112, 4) == b"0203".as_slice()
+}
+
+/// Whether its ComIDs are some that a drive can have: one at least, from 1000h on.
+fn has_com_ids(line: &[u8]) -> bool
+    ensures { result ≡ has_com_ids line.now }
+{
+    digits_at(line, 116, 1) != b"0".as_slice() && digits_at(line, 118, 4) != b"0000".as_slice()
+}
+
+/// Whether an answer to a line that receives Level 0 differs from the model's in its ComIDs alone.
+fn differs_by_com_ids(asked: &[u8], heard: &[u8], wanted: &[u8]) -> bool
+    ensures { result ≡ differs_by_com_ids asked.now heard.now wanted.now }
+{
+    asks_level0(asked)
+        && has_opal_feature(wanted)
+        && differs_within(&COM_ID_SPANS, heard, wanted)
+        && has_com_ids(heard)
+}
+
 /// Whether a line asks what the drive says that it is.
 fn asks_identity(line: &[u8]) -> bool
     ensures { result ≡ asks_identity line.now }
@@ -226,6 +271,8 @@ impl Freedom {
                     && line_adds_up(heard),
             ),
             Freedom::SessionNumbers => differs_by_number(alloc, heard, wanted),
+            Freedom::ComIds => Ok(differs_by_com_ids(asked, heard, wanted)),
+            Freedom::RandomBytes => Ok(differs_by_random(heard, wanted, other)),
         }
     }
 
@@ -239,6 +286,8 @@ impl Freedom {
             Freedom::VendorBytes => b"vendor-bytes",
             Freedom::Identity => b"identity",
             Freedom::SessionNumbers => b"session-numbers",
+            Freedom::ComIds => b"com-ids",
+            Freedom::RandomBytes => b"random-bytes",
         }
     }
 
@@ -256,6 +305,10 @@ impl Freedom {
             Some(Freedom::Identity)
         } else if name == b"session-numbers".as_slice() {
             Some(Freedom::SessionNumbers)
+        } else if name == b"com-ids".as_slice() {
+            Some(Freedom::ComIds)
+        } else if name == b"random-bytes".as_slice() {
+            Some(Freedom::RandomBytes)
         } else {
             None
         }
@@ -282,7 +335,7 @@ impl Model for Freedoms {
 pub enum FreedomFault {
     #[error("out of memory")]
     OutOfMemory,
-    #[error("--freedom is none of error-bits, blank-sectors, vendor-bytes, identity and session-numbers")]
+    #[error("--freedom is none of error-bits, blank-sectors, vendor-bytes, identity, session-numbers, com-ids and random-bytes")]
     Unknown,
 }
 
@@ -360,7 +413,8 @@ impl Freedoms {
     }
 
     /// The first by which the answer of a drive to a line differs from the model's, which answers `other` if every write
-    /// before writes another byte.
+    /// before writes another byte, and random bytes are others.
+    #[tactic(auto, unfolding(crate::specs::Freedoms::freedom_between))]
     pub fn between(
         &self,
         alloc: Global,

@@ -6,7 +6,7 @@ ghost use Rattle.judged.specs.declared.freedom.Freedom.{Freedom};
 ghost use Rattle.judged.specs.Answers.{text_behind};
 ghost use Rattle.judged.specs.Benches.{BenchFits, BenchStands};
 ghost use Rattle.judged.specs.Transcripts.{entry_text};
-ghost use Rattle.judged.specs.Judgements.{through, are_same, freedom_of, behind_commas, joined_answer, answer_behind_words, wrong_text, verdict_beside, answers_verdict, can_change, answers_agree, agreement_of, own_reasons, said_at, wanted_at, entry_verdict, freedom_at, nothing_judged, judging_of, rulings_of, script_status};
+ghost use Rattle.judged.specs.Judgements.{through, are_same, freedom_of, behind_commas, joined_answer, answer_behind_words, wrong_text, verdict_beside, answers_verdict, can_change, ruling_of, answers_agree, agreement_of, own_reasons, said_at, wanted_at, entry_verdict, freedom_at, nothing_judged, judging_of, rulings_of, script_status};
 
 use crate::answers::{agree_with, behind, is_receiving, reasons_told, wanted_of};
 use crate::bench::{Bench, Printed};
@@ -172,6 +172,18 @@ fn can_change(line: &[u8]) -> bool
         && !asks_level0(line)
 }
 
+/// The answers to a line, judged so.
+fn ruling_of(entry: &Entry, verdict: Verdict) -> Ruling
+    ensures { result ≡ ruling_of entry.now verdict }
+{
+    let is_cause = verdict.is_wrong() && can_change(entry.line.as_slice());
+    Ruling {
+        number: entry.number,
+        is_cause,
+        verdict,
+    }
+}
+
 /// What the model says to a line that a drive must say, too.
 fn said_at(alloc: Global, entry: &Entry, printed: &Printed) -> Result<Lines, AllocError>
     ensures { IfOk result (λ said. said ≡ said_at entry.now printed.now) }
@@ -299,11 +311,7 @@ impl Judging {
         }
         let asked = self.asked.as_slice();
         let verdict = entry_verdict(alloc, freedoms, &self.pairs, asked, entry, printed)?;
-        self.rulings.push(Ruling {
-            number: entry.number,
-            changes: can_change(entry.line.as_slice()),
-            verdict,
-        })
+        self.rulings.push(ruling_of(entry, verdict))
     }
 
     /// Keeps the reasons of a line that does not receive.
@@ -412,11 +420,7 @@ fn add_agreement(rulings: &mut Rulings, entry: &Entry) -> Result<(), AllocError>
     if entry.answers.len() == 0 {
         return Ok(());
     }
-    rulings.push(Ruling {
-        number: entry.number,
-        changes: can_change(entry.line.as_slice()),
-        verdict: Verdict::Agrees,
-    })
+    rulings.push(ruling_of(entry, Verdict::Agrees))
 }
 
 /// The same of a run of the script alone, on which no line has run, where all answers agree.

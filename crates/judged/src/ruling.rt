@@ -21,8 +21,8 @@ pub enum Verdict {
 pub struct Ruling {
     /// The number of the line in the transcript.
     pub number: u64,
-    /// Whether a wrong answer may come of a drive that is now in another state than the model.
-    pub changes: bool,
+    /// Whether they are wrong, and later ones may follow from it: the drive may be in another state than the model.
+    pub is_cause: bool,
     pub verdict: Verdict,
 }
 
@@ -64,18 +64,6 @@ impl Verdict {
         ensures { result ≡ is_wrong self.now }
     {
         matches!(self, Verdict::Wrong(_))
-    }
-}
-
-impl Ruling {
-    ghost use Rattle.std.specs.Prelude.{◌≡◌};
-    ghost use Rattle.judged.specs.Judgements.{is_cause};
-
-    /// Whether it is wrong, and others may follow from it.
-    pub fn is_cause(&self) -> bool
-        ensures { result ≡ is_cause self.now }
-    {
-        self.verdict.is_wrong() && self.changes
     }
 }
 

@@ -21,7 +21,7 @@ fn first_cause(rulings: &[Ruling]) -> Option<u64>
     ensures { result ≡ first_cause rulings.now }
 {
     for ruling in rulings {
-        if ruling.is_cause() {
+        if ruling.is_cause {
             return Some(ruling.number);
         }
     }

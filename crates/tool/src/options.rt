@@ -281,6 +281,7 @@ impl Model for Options {
 
 impl Options {
     ghost use Rattle.std.specs.Prelude.{◌≡◌, IfOk, IfErr};
+    ghost use Rattle.sp_cells.specs.Config.{seeded_config};
     ghost use Rattle.tool.specs.OptionTexts.{WritesConfig, IsFirstOptionFault, drive_text};
 
     /// Reads the values as they are written on the command line: two decimal numbers, hex, the name of a profile, two
@@ -327,6 +328,15 @@ impl Options {
                 config: config.with_seed(seed),
             }),
             None => Err(OptionsFault::DatastoreSize { datastore }),
+        }
+    }
+
+    /// The same, where random bytes come of this seed.
+    pub fn with_seed(&self, seed: u64) -> Options
+        ensures { result ≡ seeded_config self.now seed }
+    {
+        Options {
+            config: self.config().with_seed(seed),
         }
     }
 

@@ -8,6 +8,7 @@ ghost use Rattle.tool.specs.Scripts.{script_lines};
 ghost use Rattle.runs.specs.Alphabets.{with_line};
 
 use basics::Bytes;
+use memchr::memchr;
 use std::alloc::{AllocError, Global};
 use std::marker::Model;
 use tool::without_end;
@@ -31,12 +32,10 @@ fn line_size(text: &[u8]) -> usize
     ensures size { result ≡ length (take_through 10 text.now) }
     ensures within { result ≤ length text.now }
 {
-    for i in 0..text.len() {
-        if text[i] == b'\n' {
-            return i + 1;
-        }
+    match memchr(b'\n', text) {
+        Some(end) => end + 1,
+        None => text.len(),
     }
-    text.len()
 }
 
 /// The first line of a text, without its end, and what stands behind it.
