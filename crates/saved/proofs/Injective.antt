@@ -1,5 +1,5 @@
 -- Trees say what they were made of.
-use Rattle.std.proofs.Common.{◌≡◌, ℕ, zero, suc, Bool, true, false, ◌||◌, List, [], ◌∷◌, map, Ok, Err, Result, refl, sym, subst, ap, ◌∙◌, nat_eq, rules, arith}
+use Rattle.std.proofs.Common.{◌≡◌, ℕ, zero, suc, Bool, true, false, List, [], ◌∷◌, map, Ok, Result, refl, sym, subst, ap, ◌∙◌, nat_eq, arith}
 use Rattle.std.specs.List.{list_any}
 use Rattle.std.specs.Map.{keys_of}
 use Rattle.std.proofs.lemmas.Bool.Decides.{nat_tests}
@@ -25,7 +25,7 @@ use Rattle.tcg_tokens.specs.declared.error.TokenError.{TokenError}
 use Rattle.history.specs.History.{log}
 use Rattle.drive.specs.Rest.{Rest, KeepsRest}
 use Rattle.drive.proofs.Rests.{same_rest_law}
-use Rattle.saved.specs.Saved.{kind, flag_tree, list_tree, saved_element, saved_cell, item_tree, sector_tree, sectors_tree, saved_profile, config_tree, saved, IsWhole, OneRestLaw, SameDriveLaw}
+use Rattle.saved.specs.Saved.{kind, flag_tree, saved_element, saved_cell, item_tree, sector_tree, sectors_tree, saved_profile, config_tree, saved, OneRestLaw, SameDriveLaw}
 
 abbrev resets_of : Bool → Bool → Bool → ResetTypes
 resets_of x0 x1 x2 = record { power_cycle = x0; hardware = x1; programmatic = x2 }

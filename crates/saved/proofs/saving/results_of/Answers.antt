@@ -1,4 +1,4 @@
-use Rattle.std.proofs.Common.{◌∙◌, ap, map, sym}
+use Rattle.std.proofs.Common.{◌∙◌, ap, map}
 use Rattle.sp_tables.specs.Items.{item_of}
 use Rattle.tcg_tokens.specs.Tree.{trees}
 use Rattle.tcg_tokens.proofs.Trees.{tree_number}

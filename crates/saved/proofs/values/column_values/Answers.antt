@@ -1,4 +1,3 @@
-use Rattle.std.proofs.Common.{◌∙◌, sym}
 use Rattle.sp_cells.specs.ColumnNames.{uid_column}
 use Rattle.tcg_tokens.specs.Tree.{number}
 use Rattle.tcg_tokens.proofs.Trees.{tree_number}
