@@ -652,6 +652,14 @@ class _Object:
             _check(_LIBRARY.clone(copied._handle, self._handle))
         return copied
 
+    @classmethod
+    def _loaded(cls: Type[_Self], call: Any, saved: Bytes) -> _Self:
+        """What a call makes of the bytes of a drive."""
+        loaded = cls.__new__(cls)
+        loaded._hold_nothing()
+        _check(call(loaded._handle, *_bytes(saved)))
+        return loaded
+
     def save(self) -> bytes:
         """The drive as bytes, as a power cycle leaves it: what `Drive.load` and `Hba.load` take. It goes on as it was. PINs and sectors stand in
         them as they are."""
@@ -720,10 +728,7 @@ class Drive(_Object):
     def load(cls, saved: Bytes) -> "Drive":
         """The drive that was saved as these bytes. It answers as the saved drive does behind a power cycle. `Code.MALFORMED` of
         bytes that are no saved drive."""
-        loaded = cls.__new__(cls)
-        loaded._hold_nothing()
-        _check(_LIBRARY.drive_load(loaded._handle, *_bytes(saved)))
-        return loaded
+        return cls._loaded(_LIBRARY.drive_load, saved)
 
     _make = "drive_new"
     _data: Optional[memoryview] = None  # a buffer for the data of an answer, which stands at an address
@@ -891,10 +896,7 @@ class Hba(_Object):
     def load(cls, saved: Bytes) -> "Hba":
         """A controller over the drive that was saved as these bytes, as `Drive.load`. Its registers are as after its reset, and it
         counts the acts of its drive from then on."""
-        loaded = cls.__new__(cls)
-        loaded._hold_nothing()
-        _check(_LIBRARY.hba_load(loaded._handle, *_bytes(saved)))
-        return loaded
+        return cls._loaded(_LIBRARY.hba_load, saved)
 
     _make = "hba_new"
 

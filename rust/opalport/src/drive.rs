@@ -38,10 +38,7 @@ impl Drive {
     /// The drive that was saved as these bytes. It answers as the saved drive does behind a power cycle. [`Error::Malformed`] of
     /// bytes that are no saved drive.
     pub fn load(saved: &[u8]) -> Result<Drive, Error> {
-        let mut object = Object::none();
-        // SAFETY: the handle begins as one with nothing; the bytes are borrowed for the call.
-        Error::check(unsafe { raw::opal_raw_drive_load(&mut object.handle, saved.as_ptr(), saved.len()) })?;
-        Ok(Drive { object })
+        Object::load(raw::opal_raw_drive_load, saved).map(|object| Drive { object })
     }
 
     fn answer(&mut self, told: raw::Answer) -> Result<Answer, Error> {

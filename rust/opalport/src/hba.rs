@@ -61,10 +61,7 @@ impl Hba {
     /// A controller over the drive that was saved as these bytes, as [`Drive::load`](crate::Drive::load). Its registers are as after
     /// its reset, and it counts the acts of its drive from then on.
     pub fn load(saved: &[u8]) -> Result<Hba, Error> {
-        let mut object = Object::none();
-        // SAFETY: the handle begins as one with nothing; the bytes are borrowed for the call.
-        Error::check(unsafe { raw::opal_raw_hba_load(&mut object.handle, saved.as_ptr(), saved.len()) })?;
-        Ok(Hba { object })
+        Object::load(raw::opal_raw_hba_load, saved).map(|object| Hba { object })
     }
 
     /// Its drive as bytes, as [`Drive::save`](crate::Drive::save).

@@ -581,12 +581,21 @@ type Make = unsafe extern "C" fn(
     usize,
 ) -> u32;
 
+/// How it makes a drive of the bytes of one, or a controller over it.
+type Load = unsafe extern "C" fn(*mut raw::Handle, *const u8, usize) -> u32;
+
+/// Whether the library has the version of these crates.
+fn library_fits() -> Result<(), Error> {
+    // SAFETY: it takes nothing.
+    if unsafe { raw::opal_raw_version() } >> 8 != raw::VERSION >> 8 {
+        return Err(Error::VersionDiffers);
+    }
+    Ok(())
+}
+
 impl Object {
     fn new(make: Make, config: &Config<'_>) -> Result<Object, Error> {
-        // SAFETY: it takes nothing.
-        if unsafe { raw::opal_raw_version() } >> 8 != raw::VERSION >> 8 {
-            return Err(Error::VersionDiffers);
-        }
+        library_fits()?;
         let label = config.label;
         let size = raw::Size {
             sectors: config.sectors,
@@ -615,6 +624,15 @@ impl Object {
             )
         };
         Error::check(code)?;
+        Ok(object)
+    }
+
+    /// What a call makes of the bytes of a drive.
+    fn load(call: Load, saved: &[u8]) -> Result<Object, Error> {
+        library_fits()?;
+        let mut object = Object::none();
+        // SAFETY: the handle begins as one with nothing; the bytes are borrowed for the call.
+        Error::check(unsafe { call(&mut object.handle, saved.as_ptr(), saved.len()) })?;
         Ok(object)
     }
 
