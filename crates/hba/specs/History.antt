@@ -46,7 +46,8 @@ pub record Opened : Type 0 where
 abbrev pub over_new : Origin → Opened
 over_new origin = record { origin = origin; earlier = [] }
 
--- All that the drive has done, if it has done these acts since; the events, and what they leave.
+-- All acts of the drive, where it has done these since the HBA was opened; the events of all of them, and the facts that
+-- these leave.
 abbrev pub all_acts : Opened → List Act → List Act
 all_acts o acts = acts ++ o.earlier
 
@@ -56,7 +57,7 @@ whole_log o acts = log o.origin (all_acts o acts)
 abbrev pub facts_of : Opened → List Act → Facts
 facts_of o acts = facts o.origin (whole_log o acts)
 
--- What operations have done: the acts of the drive since, the newest first, and the registers.
+-- What operations have done: the acts of the drive since the HBA was opened, the newest first, and the registers.
 pub record Account : Type 0 where
   pub acts : List Act
   pub registers : Registers

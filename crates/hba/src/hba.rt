@@ -17,7 +17,7 @@ use std::marker::Model;
 pub struct Hba {
     pub(crate) alloc: Global,
     pub(crate) drive: Drive,
-    /// How many acts the drive has done since, modulo 2^64.
+    /// How many acts the drive has done since the HBA was made, modulo 2^64.
     pub(crate) acts: u64,
     pub(crate) registers: Registers,
     /// Room for what comes with the next command.
