@@ -116,4 +116,4 @@ differs_in_random place (x ∷ xs) (y ∷ ys) (z ∷ zs) =
 -- a response that differs in such digits alone
 abbrev pub differs_by_random : List ℕ → List ℕ → List ℕ → Bool
 differs_by_random heard wanted other =
-    bytes_eq (take 5 wanted) (codes "data ") && differs_in_random 0 heard wanted other
+    bytes_eq (take data_place wanted) (codes "data ") && differs_in_random 0 heard wanted other
