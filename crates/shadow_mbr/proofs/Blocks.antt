@@ -98,7 +98,7 @@ same_places (e ∷ es) (f ∷ fs) sorted_a sorted_b same =
     ]
 
 -- What is among the first is among all.
-any_of_first : (p : ℕ → Bool) (i : ℕ) (xs : List ℕ) → list_any p (take i xs) ≡ true → list_any p xs ≡ true
+pub any_of_first : (p : ℕ → Bool) (i : ℕ) (xs : List ℕ) → list_any p (take i xs) ≡ true → list_any p xs ≡ true
 any_of_first p i xs is =
     sym (ap (list_any p) (take-append-drop i xs)) ∙ list_any-append p (take i xs) (drop i xs) ∙ rw is refl
 

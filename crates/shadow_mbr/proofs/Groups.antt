@@ -1,5 +1,5 @@
 -- A look-up in the places of all groups is one in the group of the sector.
-use Rattle.std.proofs.Common.{◌≡◌, ℕ, zero, suc, ◌+◌, ◌-◌, ◌*◌, ◌/◌, ◌%◌, ◌<◌, ◌≤◌, Bool, List, [], ◌∷◌, ◌++◌, length, take, get_or, set, replicate, ◌≢◌, refl, ap, sym, ◌∙◌, arith, inl, inr, nat_cmp, Option, Some, None}
+use Rattle.std.proofs.Common.{◌≡◌, ℕ, suc, ◌+◌, ◌-◌, ◌*◌, ◌/◌, ◌%◌, ◌<◌, ◌≤◌, Bool, List, [], ◌∷◌, ◌++◌, length, take, get_or, set, replicate, ◌≢◌, refl, ap, sym, ◌∙◌, arith, inl, inr, nat_cmp, Option, Some, None}
 use Rattle.std.specs.declared.cmp.Ordering.TheVariants.{Less, Equal, Greater}
 use Rattle.std.specs.Cmp.{nat_cmp_is}
 use Rattle.std.proofs.lemmas.Bool.{cases_lt, cases_eq, cases_Bool}
@@ -11,7 +11,7 @@ use Rattle.std.specs.List.Sorted.{IsStrictlySortedBy}
 use Rattle.std.specs.BTreeMap.{is_at}
 use Rattle.std.specs.Map.{lookup, keys_of}
 use Rattle.shadow_mbr.specs.Places.{placed_from, placed_in, place_at, group_in, group_after, in_group, no_places}
-use Rattle.shadow_mbr.proofs.Numbers.{at_less, at_same, at_more, at_other}
+use Rattle.shadow_mbr.proofs.Numbers.{at_less, at_same, at_more}
 
 -- a look-up in one list behind another
 second : {X : Type 0} (test : ℕ → Bool) (a b : List (ℕ × X)) → lookup test a ≡ None → lookup test (a ++ b) ≡ lookup test b

@@ -15,3 +15,4 @@ pub mod Fills
 pub mod Indexed
 pub mod Same
 pub mod Listed
+pub mod Shrunk

@@ -1,5 +1,5 @@
 -- What is kept tells all.
-use Rattle.std.proofs.Common.{◌≡◌, ◌≢◌, ℕ, Bool, List, [], ◌∷◌, Option, Some, None, true, false, ◌||◌, nat_eq, refl, sym, ◌∙◌, ap, arith, inl, inr, nat_cmp}
+use Rattle.std.proofs.Common.{◌≡◌, ◌≢◌, ℕ, Bool, List, [], ◌∷◌, Some, true, ◌||◌, nat_eq, refl, sym, ◌∙◌, ap, arith, inl, inr, nat_cmp}
 use Rattle.std.specs.Prelude.{is_some}
 use Rattle.std.specs.List.{list_any, AllByRecursion}
 use Rattle.std.specs.List.Sorted.{IsStrictlySortedBy}

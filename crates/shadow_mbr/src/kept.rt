@@ -11,6 +11,7 @@ ghost use Rattle.shadow_mbr.specs.Places.{place_at, block_at, blocks_of, blocks_
 use crate::erasure::Erasure;
 use crate::piece::{SECTOR, piece_len, sectors_of};
 use crate::places::{Finder, Places};
+use crate::shrinking::is_zeros;
 use std::alloc::{AllocError, Global};
 use std::marker::Model;
 
@@ -163,6 +164,16 @@ fn fill_blocks(finder: &mut Finder<'_>, blocks: &mut Vec<Block>, first: u64, end
     for sector in first..end {
         let place = finder.at(sector);
         fill_block(blocks, place, byte);
+    }
+}
+
+/// Another block stands at a place, if there is one.
+fn put_block(blocks: &mut Vec<Block>, place: Option<usize>, block: &Block)
+    requires { IfSome place (λ p. p < vec_len blocks.old) }
+    ensures { IfSome place (λ p. blocks.new.items ≡ set blocks.old.items p block.now) }
+{
+    if let Some(place) = place {
+        blocks[place] = *block;
     }
 }
 
@@ -417,5 +428,29 @@ impl Kept {
         ensures sorted { IsStrictlySortedBy nat_cmp (keys_of self.new) }
     {
         self.places.erase(erasure, &mut self.blocks);
+    }
+
+    /// The sectors ascend: the type promises it, and says so where a field is used.
+    #[tactic(auto, using(crate::proofs::Blocks::sorted_blocks))]
+    pub(crate) fn is_sorted(&self)
+        ensures { IsStrictlySortedBy nat_cmp (keys_of self.now) }
+    {
+        let _ = &self.blocks;
+    }
+
+    /// Gives a sector that is kept other bytes.
+    pub(crate) fn put(&mut self, sector: u64, block: &Block)
+        requires { is_some (block_in self.old sector) ≡ true }
+        ensures { (s : ℕ) → block_in self.new s
+            ≡ (if s == sector then Some block.now else block_in self.old s) }
+    {
+        let place = self.places.get(sector);
+        put_block(&mut self.blocks, place, block);
+    }
+
+    /// Whether more than half of the blocks are zeros. Nothing is said of it: it is asked for the sake of memory alone.
+    pub(crate) fn is_mostly_zeros(&self) -> bool {
+        let zeros = self.blocks.iter().filter(|block| is_zeros(block)).count();
+        zeros > self.blocks.len() / 2
     }
 }

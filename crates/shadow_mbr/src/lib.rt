@@ -17,6 +17,7 @@ mod media;
 mod piece;
 mod places;
 mod sectors;
+mod shrinking;
 
 pub use erased::Erased;
 pub use erasure::{Erasure, MOST_RUNS, Run, Runs};

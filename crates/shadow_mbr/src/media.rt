@@ -181,8 +181,8 @@ impl Media {
         Ok(())
     }
 
-    /// Makes zeros of the sectors that are erased; each other keeps its bytes. It takes no memory, and
-    /// where all are erased it gives back what it has.
+    /// Makes zeros of the sectors that are erased; each other keeps its bytes. It needs no memory, and gives back that of
+    /// sectors which hold zeros: of all where all are erased, else where they are most of what is kept.
     pub fn erase(&mut self, erased: &Erased)
         ensures size { self.new.sectors ≡ self.old.sectors }
         ensures sectors { (sector : ℕ) → sector_at self.new sector

@@ -7,6 +7,7 @@ ghost use Rattle.shadow_mbr.specs.Stored.{sector_size, zeros, has_byte};
 use crate::erasure::Erasure;
 use crate::kept::{Block, HEAD_SIZE, Kept, SECTOR_SIZE};
 use crate::piece::{SECTOR, piece_len, sectors_of};
+use crate::shrinking::without_zeros;
 use std::alloc::{AllocError, Global};
 use std::marker::Model;
 
@@ -312,8 +313,8 @@ impl Sectors {
         Ok(())
     }
 
-    /// Makes zeros of the sectors that are erased. Where all are, nothing is kept any more, and the
-    /// memory is given back.
+    /// Makes zeros of the sectors that are erased, and gives back the memory of zeros: of all where all are erased, else
+    /// where most of what is kept are zeros.
     pub(crate) fn erase(&mut self, erasure: &Erasure)
         ensures size { self.new.sectors ≡ self.old.sectors }
         ensures sectors { (s : ℕ) → sector_at self.new s
@@ -325,6 +326,23 @@ impl Sectors {
             self.clear();
         } else {
             self.kept.erase(erasure);
+            self.shrink();
+        }
+    }
+
+    /// Keeps the sectors that hold zeros no more, where these are most of those that are kept, and gives back their memory.
+    /// Where memory for those that stay is refused, all are kept.
+    fn shrink(&mut self)
+        ensures size { self.new.sectors ≡ self.old.sectors }
+        ensures sectors { (s : ℕ) → sector_at self.new s ≡ sector_at self.old s }
+        ensures sound { IsSound self.new }
+    {
+        self.is_sound();
+        if self.kept.is_mostly_zeros() {
+            if let Ok(fewer) = without_zeros(&self.kept, self.alloc) {
+                fewer.is_sorted();
+                self.kept = fewer;
+            }
         }
     }
 }

@@ -1,5 +1,5 @@
 use Rattle.std.proofs.Common.{sym}
-use Rattle.shadow_mbr.proofs.Grouped.{found_group, no_group, one_group, own_one, none_changed}
+use Rattle.shadow_mbr.proofs.Grouped.{found_group, no_group, one_group, none_changed}
 use Rattle.shadow_mbr.proofs.group_map.Groups.remove.Goals as goal
 
 pub returns-in-Some-clause-removed : goal.returns-in-Some-clause-removed

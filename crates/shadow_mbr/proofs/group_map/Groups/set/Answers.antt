@@ -1,4 +1,4 @@
-use Rattle.std.proofs.Common.{sym, arith, length, ◌≡◌, ◌∙◌}
+use Rattle.std.proofs.Common.{sym, arith, length, ◌≡◌}
 use Rattle.shadow_mbr.proofs.Grouped.{found_group, no_group, one_group, new_group, long_none}
 use Rattle.shadow_mbr.proofs.group_map.Groups.set.Goals as goal
 

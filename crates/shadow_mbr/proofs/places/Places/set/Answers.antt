@@ -1,4 +1,4 @@
-use Rattle.std.proofs.Common.{◌/◌, ap, sym, refl, arith, Some}
+use Rattle.std.proofs.Common.{◌/◌, sym, refl, arith, Some}
 use Rattle.std.specs.Prelude.{unwrap_or}
 use Rattle.shadow_mbr.specs.Places.{group_in, no_places}
 use Rattle.shadow_mbr.proofs.Groups.{put_in_group, was_there}
