@@ -53,9 +53,6 @@ in_group (Some places) i = slice_index_or places i None
 abbrev pub recent_size : ℕ
 recent_size = 64
 
-unfoldable pub no_recent : List (Option (ℕ × ℕ))
-no_recent = replicate recent_size None
-
 -- where a sector stands
 abbrev pub place_at : List (ℕ × ℕ) → ℕ → Option ℕ
 place_at places sector = lookup (is_at (nat_cmp sector)) places

@@ -1,7 +1,7 @@
 //! Where groups stand, by their numbers.
 
-ghost use Rattle.std.specs.Prelude.{◌≡◌, ◌%◌, None, Some, length, set, slice_index_or};
-ghost use Rattle.shadow_mbr.specs.Places.{recent_size, no_recent};
+ghost use Rattle.std.specs.Prelude.{◌≡◌, ◌%◌, None, Some, set, slice_index_or, ℕ};
+ghost use Rattle.shadow_mbr.specs.Places.{recent_size};
 
 use std::alloc::{AllocError, Global};
 use std::collections::BTreeMap;
@@ -16,11 +16,12 @@ const RECENT: u64 = RECENT_SIZE as u64;
 type Entry = Option<(u64, u32)>;
 
 /// An ordered map: whoever chooses the numbers cannot make it slow. Of the numbers that came last some stand beside
-/// it too, each in the one place that it can have, so that few are searched where few are used.
+/// it too, each in the one place that it can have, so that few are searched where few are used. Until a number comes,
+/// and where memory is refused, there is no such place.
 #[derive(Drop)]
 pub(crate) struct Indexes {
     tree: BTreeMap<u64, u32>,
-    recent: [Entry; RECENT_SIZE],
+    recent: Vec<Entry>,
 }
 
 impl Model for Indexes {
@@ -31,30 +32,38 @@ impl Model for Indexes {
 
     ghost view = { λ a. a.tree.entries };
 
-    ghost invariant = { λ a. AreIndexed a.tree.entries a.recent };
-}
-
-/// No number.
-#[tactic(auto, unfolding(crate::specs::Places::no_recent))]
-fn no_recent() -> [Entry; RECENT_SIZE]
-    ensures { result ≡ no_recent }
-{
-    [None; RECENT_SIZE]
+    ghost invariant = { λ a. AreIndexed a.tree.entries a.recent.items };
 }
 
 /// What stands in the one place that a number can have.
-fn entry_of(recent: &[Entry; RECENT_SIZE], number: u64) -> Entry
+fn entry_of(recent: &[Entry], number: u64) -> Entry
     ensures { result ≡ slice_index_or recent.now (number % recent_size) None }
 {
-    recent[(number % RECENT) as usize]
+    match recent.get((number % RECENT) as usize) {
+        Some(entry) => *entry,
+        None => None,
+    }
 }
 
-/// Puts a number into the one place that it can have.
-fn put_entry(recent: &mut [Entry; RECENT_SIZE], number: u64, index: u32)
-    ensures put { recent.new ≡ set recent.old (number % recent_size) (Some (number, index)) }
-    ensures long { length recent.old ≡ recent_size }
+/// Makes the places, where there are none yet and memory is not refused.
+fn make_places(recent: &mut Vec<Entry>)
+    ensures { (i : ℕ) → slice_index_or recent.new.items i None
+        ≡ slice_index_or recent.old.items i None }
 {
-    recent[(number % RECENT) as usize] = Some((number, index));
+    if recent.is_empty() {
+        recent.resize(RECENT_SIZE, None).unwrap_or(());
+    }
+}
+
+/// Puts a number into the one place that it can have, if there is one.
+fn put_entry(recent: &mut Vec<Entry>, number: u64, index: u32)
+    ensures { recent.new.items
+        ≡ set recent.old.items (number % recent_size) (Some (number, index)) }
+{
+    let at = (number % RECENT) as usize;
+    if at < recent.len() {
+        recent[at] = Some((number, index));
+    }
 }
 
 impl Indexes {
@@ -70,7 +79,7 @@ impl Indexes {
     {
         Indexes {
             tree: BTreeMap::new(alloc),
-            recent: no_recent(),
+            recent: Vec::new(alloc),
         }
     }
 
@@ -81,7 +90,7 @@ impl Indexes {
     {
         Ok(Indexes {
             tree: self.tree.clone()?,
-            recent: self.recent,
+            recent: self.recent.clone()?,
         })
     }
 
@@ -110,7 +119,6 @@ impl Indexes {
     }
 
     /// The group of another number stands there. Where memory is refused, nothing changes.
-    #[tactic(auto, using(crate::proofs::Indexed::more_indexed))]
     pub(crate) fn insert(&mut self, number: u64, index: u32) -> Result<(), AllocError>
         requires { place_at self.old number ≡ None }
         ensures looks { OnOk result ((n : ℕ) → place_at self.new n
@@ -119,6 +127,7 @@ impl Indexes {
         ensures err { OnErr result (self.new ≡ self.old) }
     {
         self.tree.insert(number, index)?;
+        make_places(&mut self.recent);
         put_entry(&mut self.recent, number, index);
         Ok(())
     }
