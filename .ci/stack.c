@@ -1,5 +1,5 @@
 /* How much stack the calls of the library take: each is made in a thread with 64 KiB of stack, which is painted before, and what
-   is painted no more is counted. A call may take 16 KiB, a copy, a save and a load 40, as the header says. A page below the stack can't be touched. */
+   is painted no more is counted. A call may take 16 KiB, a copy and a save 30, as the header says. A page below the stack can't be touched. */
 #include "opalport.h"
 
 #include <pthread.h>
@@ -8,7 +8,7 @@
 #include <string.h>
 #include <sys/mman.h>
 
-enum { STACK = 64 << 10, PAGE = 4096, PAINT = 0xa5, MOST = 16 << 10, MOST_OF_A_COPY = 40 << 10, BASE = 0x100000 };
+enum { STACK = 64 << 10, PAGE = 4096, PAINT = 0xa5, MOST = 16 << 10, MOST_OF_A_COPY = 30 << 10, BASE = 0x100000 };
 enum { PxCLB = 0x100, PxFB = 0x108, PxCMD = 0x118, PxSERR = 0x130, PxCI = 0x138 };
 
 static const opal_range locked = { 500, 10, 1, 1, 1, 1, 1 };
@@ -155,7 +155,7 @@ static void run(const char *what, void *(*call)(void *), size_t may_take)
 
 #define RUN(call) run(#call, call, MOST)
 #define CLONE(what) run("a clone of " what, clones, MOST_OF_A_COPY), RUN(frees_clone)
-#define SAVE(what) run("a save of " what, saves, MOST_OF_A_COPY), run("its load", loads, MOST_OF_A_COPY), RUN(frees_clone), run("its load into a controller", hba_loads, MOST_OF_A_COPY), RUN(frees_clone)
+#define SAVE(what) run("a save of " what, saves, MOST_OF_A_COPY), run("its load", loads, MOST), RUN(frees_clone), run("its load into a controller", hba_loads, MOST), RUN(frees_clone)
 
 int main(void)
 {

@@ -14,7 +14,7 @@
 
    Each call gives a code: OPAL_DONE, or why it was refused, and then nothing was done. opal_error_text tells it in
    words. A call never ends the process and never prints. It waits for no other call, but for the moment in which that looks up
-   its handle. It takes memory from malloc, and up to 16 KiB of stack, opal_clone, opal_save, opal_drive_load and opal_hba_load up to 40. A text that is given has a length, and
+   its handle. It takes memory from malloc, and up to 16 KiB of stack, opal_clone and opal_save up to 30. A text that is given has a length, and
    no zero behind it.
 
    A handle is a number. The library looks it up in its table, and follows no address in it. A number is never given twice. So a

@@ -32,7 +32,8 @@ fn copy_sectors(from: &Kept, to: &mut Kept, sectors: &[u64])
     requires { (s : ℕ) → list_any (nat_eq s) sectors.now ≡ true
         → is_some (block_in to.old s) ≡ true }
     ensures sectors { (s : ℕ) → kept_sector to.new s
-        ≡ (if list_any (nat_eq s) sectors.now then kept_sector from.now s else kept_sector to.old s) }
+        ≡ (if list_any (nat_eq s) sectors.now then kept_sector from.now s
+        else kept_sector to.old s) }
 {
     for sector in sectors {
         to.put(*sector, from.sector(*sector));
