@@ -3,6 +3,7 @@ pub mod Answers
 pub mod Blanks
 pub mod SessionNumbers
 pub mod SessionPairs
+pub mod Properties
 pub mod Freedoms
 pub mod Judgements
 pub mod Laws

@@ -10,6 +10,7 @@ mod freedom;
 mod judging;
 mod laws;
 mod pairs;
+mod properties;
 mod reading;
 mod received;
 mod ruling;

@@ -22,6 +22,7 @@ Freedoms, which the standards leave to a drive:
   session-numbers  the number that the drive gives a session (TCG Core 2.01, section 5.2.3)
   com-ids          the first of the ComIDs, and how many there are, in Level 0 (Opal SSC 2.01)
   random-bytes     the bytes that Random gives (TCG Core 2.01, section 5.6.4.1)
+  properties       the values that the TPer tells by Properties (Opal SSC 2.01, section 4.1.1.1)
 
 Status: 0 no answer is wrong, 1 one is, 2 the script of the transcript does not run to its end, bad
 usage or an error";
