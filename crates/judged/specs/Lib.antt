@@ -4,6 +4,7 @@ pub mod Blanks
 pub mod SessionNumbers
 pub mod SessionPairs
 pub mod Properties
+pub mod Shown
 pub mod Freedoms
 pub mod Judgements
 pub mod Laws

@@ -8,6 +8,7 @@ mod blanks;
 mod entry;
 mod freedom;
 mod judging;
+mod known;
 mod laws;
 mod pairs;
 mod properties;
@@ -15,6 +16,7 @@ mod reading;
 mod received;
 mod ruling;
 mod script;
+mod shown;
 mod telling;
 mod text;
 

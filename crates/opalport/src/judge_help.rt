@@ -16,7 +16,8 @@ and behind a wrong one the reasons of a refusal, as `opalport run --explain` tel
 
 Freedoms, which the standards leave to a drive:
   error-bits       bits of the Error field without a meaning, beside ABRT (ACS-3, section 6.3)
-  blank-sectors    what sectors hold that nothing has written, or that an erasure wiped
+  blank-sectors    what sectors hold that nothing has written, or that an erasure wiped: the same
+                   again until a line may have changed it
   vendor-bytes     bytes 16 to 47 of Level 0 discovery (TCG Core 2.01, section 3.3.6)
   identity         serial number, firmware, model, World Wide Name in IDENTIFY DEVICE data (ACS-3)
   session-numbers  the number that the drive gives a session (TCG Core 2.01, section 5.2.3)
