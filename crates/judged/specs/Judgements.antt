@@ -150,15 +150,14 @@ is_of_blanks ComIds = false
 is_of_blanks RandomBytes = false
 is_of_blanks Properties = false
 
--- answers show what blank sectors hold where they are what must be said, or differ in that alone
-abbrev pub shows_by : Bool → Option Freedom → Bool
-shows_by same None = same
-shows_by same (Some freedom) = same || is_of_blanks freedom
+abbrev pub is_by_blanks : Option Freedom → Bool
+is_by_blanks None = false
+is_by_blanks (Some freedom) = is_of_blanks freedom
 
+-- answers show what blank sectors hold where they are what must be said, or differ in that alone
 abbrev pub shows_at : List Freedom → Known → Entry → Printed → Bool
-shows_at freedoms known entry printed =
-    shows_by (are_same entry.answers (wanted_at known entry printed))
-    (freedom_at freedoms known entry printed)
+shows_at freedoms known entry printed = are_same entry.answers (wanted_at known entry printed)
+    || is_by_blanks (freedom_at freedoms known entry printed)
 
 abbrev pub learned_by_read : Option ℕ → List Freedom → Known → Entry → Printed → List ShownSector
 learned_by_read None freedoms known entry printed = []

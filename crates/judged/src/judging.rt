@@ -6,7 +6,7 @@ ghost use Rattle.judged.specs.declared.freedom.Freedom.{Freedom};
 ghost use Rattle.judged.specs.Answers.{text_behind};
 ghost use Rattle.judged.specs.Benches.{BenchFits, BenchStands};
 ghost use Rattle.judged.specs.Transcripts.{entry_text};
-ghost use Rattle.judged.specs.Judgements.{through, are_same, freedom_of, behind_commas, joined_answer, answer_behind_words, wrong_text, verdict_beside, answers_verdict, can_change, ruling_of, answers_agree, agreement_of, entry_verdict, freedom_at, shows_by, shows_at, learned_by_read, learned_at, nothing_judged, judging_of, rulings_of, script_status};
+ghost use Rattle.judged.specs.Judgements.{through, are_same, freedom_of, behind_commas, joined_answer, answer_behind_words, wrong_text, verdict_beside, answers_verdict, can_change, ruling_of, answers_agree, agreement_of, entry_verdict, freedom_at, wanted_at, is_by_blanks, shows_at, learned_by_read, learned_at, nothing_judged, judging_of, rulings_of, script_status};
 
 use crate::answers::{agree_with, behind, is_receiving};
 use crate::bench::{Bench, Printed};
@@ -198,6 +198,9 @@ fn entry_verdict(
         ≡ entry_verdict freedoms.now known.now asked.now entry.now printed.now) }
 {
     let wanted = wanted_at(alloc, known, entry, printed)?;
+    if are_same(entry.answers.as_slice(), wanted.as_slice()) {
+        return Ok(Verdict::Agrees);
+    }
     let other = other_at(alloc, known, entry, printed)?;
     let reasons = reasons_at(alloc, known, asked, entry, printed)?;
     answers_verdict(
@@ -236,31 +239,34 @@ fn freedom_at(
     )
 }
 
-/// Whether answers show what blank sectors hold: they are what must be said, or differ in that alone.
-fn shows_by(same: bool, freedom: Option<Freedom>) -> bool
-    ensures { result ≡ shows_by same freedom }
+/// Whether answers differ in what blank sectors hold.
+fn is_by_blanks(freedom: Option<Freedom>) -> bool
+    ensures { result ≡ is_by_blanks freedom }
 {
     match freedom {
         Some(Freedom::BlankSectors) => true,
-        _ => same,
+        _ => false,
     }
 }
 
-/// The same of the answers to a line.
+/// Whether the answers to a line show what blank sectors hold: they are what must be said, or differ in that alone.
 fn shows_at(
     alloc: Global,
     freedoms: &Freedoms,
     known: &Known,
     entry: &Entry,
     printed: &Printed,
+    wanted: &[Bytes],
 ) -> Result<bool, AllocError>
+    requires { wanted.now ≡ wanted_at known.now entry.now printed.now }
     ensures { IfOk result (λ shows. shows
         ≡ shows_at freedoms.now known.now entry.now printed.now) }
 {
-    let wanted = wanted_at(alloc, known, entry, printed)?;
-    let same = are_same(entry.answers.as_slice(), wanted.as_slice());
+    if are_same(entry.answers.as_slice(), wanted) {
+        return Ok(true);
+    }
     let freedom = freedom_at(alloc, freedoms, known, entry, printed)?;
-    Ok(shows_by(same, freedom))
+    Ok(is_by_blanks(freedom))
 }
 
 /// What the answers to a line show of blank sectors, whose first read sector is this.
@@ -275,13 +281,14 @@ fn learned_by_read(
     ensures { IfOk result (λ learned. learned
         ≡ learned_by_read (Some first) freedoms.now known.now entry.now printed.now) }
 {
-    if !shows_at(alloc, freedoms, known, entry, printed)? {
+    let wanted = wanted_at(alloc, known, entry, printed)?;
+    let wanted = wanted.as_slice();
+    if !shows_at(alloc, freedoms, known, entry, printed, wanted)? {
         return Ok(ShownSectors::new(alloc));
     }
     let heard = first_answer(entry.answers.as_slice());
-    let wanted = wanted_at(alloc, known, entry, printed)?;
-    let wanted = first_answer(wanted.as_slice());
     let other = other_at(alloc, known, entry, printed)?;
+    let wanted = first_answer(wanted);
     ShownSectors::newly(alloc, entry.number, first, heard, wanted, other.as_slice())
 }
 
