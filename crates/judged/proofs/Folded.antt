@@ -1,26 +1,27 @@
 -- The runs of a transcript's script, line by line.
-use Rattle.std.proofs.Common.{◌≡◌, ◌∙◌, ℕ, zero, suc, ◌+◌, ◌<◌, ◌≤◌, ◌==◌, ◌||◌, Bool, true, false, cond, List, [], ◌∷◌, ◌++◌, length, drop, get_or, fold, refl, sym, ap, subst, arith, eqb-true, ◌⊎◌, inl, inr}
+use Rattle.std.proofs.Common.{◌≡◌, ◌∙◌, ℕ, zero, suc, ◌+◌, ◌<◌, ◌≤◌, ◌==◌, ◌||◌, Bool, true, false, cond, List, [], ◌∷◌, ◌++◌, length, drop, get_or, fold, Option, None, Some, refl, sym, ap, subst, arith, eqb-true, ◌⊎◌, inl, inr}
 use Rattle.std.proofs.lemmas.Bool.{false≢true}
 use Rattle.sp_cells.specs.Config.{Config}
 use Rattle.runs.specs.Stepped.{RanTo}
 use Rattle.runs.specs.declared.recorded.stepped.SteppedRun.{SteppedRun}
-use Rattle.tool.specs.Scripts.{script_lines}
-use Rattle.judged.specs.Answers.{text_behind, reasons_told}
+use Rattle.judged.specs.Answers.{text_behind}
 use Rattle.judged.specs.Benches.{ScriptsGoOn}
 use Rattle.judged.specs.Blanks.{other_text, other_config, first_answer}
-use Rattle.judged.specs.Judgements.{are_same, freedom_of, verdict_beside, through, printed_at, own_reasons, said_at, wanted_at, freedom_at, ruling_of, ruling_at, rulings_at, answers_agree, agreement_of, pairs_behind, entry_added, with_models_entry, with_entry, nothing_judged, judging_of}
+use Rattle.judged.specs.Judgements.{are_same, freedom_of, verdict_beside, through, printed_at, said_at, named_at, model_other, wanted_at, other_at, reasons_at, freedom_at, shows_at, learned_by_read, learned_at, ruling_of, ruling_at, rulings_at, answers_agree, agreement_of, pairs_behind, known_behind, entry_added, with_models_entry, with_entry, nothing_judged, judging_of}
 use Rattle.judged.specs.SessionNumbers.{number_told}
 use Rattle.judged.specs.SessionPairs.{as_model}
+use Rattle.judged.specs.Shown.{first_read, kept_behind, newly_shown}
 use Rattle.judged.specs.Transcripts.{entry_text}
 use Rattle.judged.specs.declared.bench.Printed.{Printed}
 use Rattle.judged.specs.declared.entry.Entry.{Entry}
 use Rattle.judged.specs.declared.freedom.Freedom.{Freedom}
 use Rattle.judged.specs.declared.judging.Judging.{Judging}
-use Rattle.judged.specs.declared.pairs.SessionPair.{SessionPair}
+use Rattle.judged.specs.declared.known.Known.{Known}
 use Rattle.judged.specs.declared.ruling.Ruling.{Ruling}
 use Rattle.judged.specs.declared.ruling.Verdict.TheVariants.{Agrees}
 use Rattle.judged.proofs.PlainPairs.{IsPlain, lines-plain, entry-plain, with-plain}
 use Rattle.judged.proofs.SameLines.{are_same-Decides}
+use Rattle.judged.proofs.ShownZeros.{AreZeros, lines-zeros, kept-zeros, more-zeros, newly-zeros}
 
 -- what the runs print is what the model prints
 abbrev pub three : List ℕ → List ℕ → List ℕ → Printed
@@ -43,7 +44,7 @@ from-place (entry ∷ entries) (suc i) d within = from-place entries i d (omega 
 
 -- one line more is judged
 pub one_more : (config : Config) (freedoms : List Freedom) (judging later whole : Judging) (entries : List Entry) (i next : ℕ) (entry d asked : Entry)
-    (printed : Printed) → i < length entries → next ≡ i + 1 → entry ≡ get_or entries i d → asked ≡ as_model judging.pairs entry
+    (printed : Printed) → i < length entries → next ≡ i + 1 → entry ≡ get_or entries i d → asked ≡ as_model judging.known.pairs entry
     → later ≡ entry_added freedoms judging asked printed → printed ≡ printed_at config judging asked
     → fold (with_entry config freedoms) judging (drop i entries) ≡ whole
     → fold (with_entry config freedoms) later (drop next entries) ≡ whole
@@ -91,45 +92,80 @@ none-or-said entry printed agree =
     at (inl none) = inl (no-answers entry.answers none)
     at (inr same) = inr ((are_same-Decides entry.answers (said_at entry printed)).0 same)
 
+-- What is known of a drive that said what the model says: its sessions have the model's numbers, and blank sectors hold zeros.
+abbrev pub IsModels : Known → Type 0
+IsModels known = IsPlain known.pairs × AreZeros known.shown
+
+-- then what must be said is what the model says
+pub wanted-models : (known : Known) (entry : Entry) (printed : Printed) → IsModels known → wanted_at known entry printed ≡ said_at entry printed
+wanted-models known entry printed models =
+    lines-zeros known.shown (first_read entry.line) (model_other printed) (named_at known.pairs entry printed) models.1
+    ∙ lines-plain known.pairs (said_at entry printed) models.0
+
 -- where the answers to a line agree, sessions keep the model's numbers
-pub still-plain : (freedoms : List Freedom) (pairs : List SessionPair) (entry : Entry) (printed : Printed) → IsPlain pairs
-    → (entry.answers ≡ []) ⊎ (entry.answers ≡ said_at entry printed) → IsPlain (pairs_behind freedoms pairs entry printed)
-still-plain freedoms pairs entry printed plain (inl none) =
-    with-plain pairs (freedom_at freedoms pairs entry printed) (number_told (first_answer entry.answers)) (number_told (first_answer (said_at entry printed))) plain
-    (inr (ap (λ answers. freedom_of freedoms entry.line answers (wanted_at pairs entry printed) (first_answer (script_lines printed.other))) none))
-still-plain freedoms pairs entry printed plain (inr said) =
-    with-plain pairs (freedom_at freedoms pairs entry printed) (number_told (first_answer entry.answers)) (number_told (first_answer (said_at entry printed))) plain
+pairs-still : (freedoms : List Freedom) (known : Known) (entry : Entry) (printed : Printed) → IsPlain known.pairs
+    → (entry.answers ≡ []) ⊎ (entry.answers ≡ said_at entry printed) → IsPlain (pairs_behind freedoms known entry printed)
+pairs-still freedoms known entry printed plain (inl none) =
+    with-plain known.pairs (freedom_at freedoms known entry printed) (number_told (first_answer entry.answers)) (number_told (first_answer (said_at entry printed))) plain
+    (inr (ap (λ answers. freedom_of freedoms entry.line answers (wanted_at known entry printed) (other_at known entry printed)) none))
+pairs-still freedoms known entry printed plain (inr said) =
+    with-plain known.pairs (freedom_at freedoms known entry printed) (number_told (first_answer entry.answers)) (number_told (first_answer (said_at entry printed))) plain
     (inl (ap (λ (answers : List (List ℕ)). number_told (first_answer answers)) said))
 
+-- and blank sectors zeros
+first-said : (entry : Entry) (printed : Printed) (wanted : List (List ℕ)) → wanted ≡ said_at entry printed
+    → (entry.answers ≡ []) ⊎ (entry.answers ≡ said_at entry printed)
+    → (first_answer entry.answers ≡ []) ⊎ (first_answer entry.answers ≡ first_answer wanted)
+first-said entry printed wanted is (inl none) = inl (ap first_answer none)
+first-said entry printed wanted is (inr said) = inr (ap first_answer (said ∙ sym is))
+
+learned-still : (freedoms : List Freedom) (known : Known) (entry : Entry) (printed : Printed) (first : Option ℕ) → IsModels known
+    → (entry.answers ≡ []) ⊎ (entry.answers ≡ said_at entry printed) → AreZeros (learned_by_read first freedoms known entry printed)
+learned-still freedoms known entry printed None models so = tt
+learned-still freedoms known entry printed (Some first) models so = at (shows_at freedoms known entry printed)
+  where
+    at : (t : Bool) → AreZeros (cond t (newly_shown entry.number first (first_answer entry.answers) (first_answer (wanted_at known entry printed)) (other_at known entry printed)) [])
+    at true = newly-zeros entry.number first (first_answer entry.answers) (first_answer (wanted_at known entry printed)) (other_at known entry printed)
+        (first-said entry printed (wanted_at known entry printed) (wanted-models known entry printed models) so)
+    at false = tt
+
+pub still-models : (freedoms : List Freedom) (known : Known) (entry : Entry) (printed : Printed) → IsModels known
+    → (entry.answers ≡ []) ⊎ (entry.answers ≡ said_at entry printed) → IsModels (known_behind freedoms known entry printed)
+still-models freedoms known entry printed models so = (
+  pairs-still freedoms known entry printed models.0 so,
+  more-zeros (kept_behind entry.line known.shown) (learned_at freedoms known entry printed)
+      (kept-zeros entry.line known.shown models.1) (learned-still freedoms known entry printed (first_read entry.line) models so),
+)
+
 -- where the answers to a line agree, it is judged so
-pub agreed_at : (freedoms : List Freedom) (pairs : List SessionPair) (asked : List ℕ) (entry : Entry) (printed : Printed) → IsPlain pairs
-    → answers_agree entry printed.said ≡ true → rulings_at freedoms pairs asked entry printed ≡ agreement_of entry
-agreed_at freedoms pairs asked entry printed plain agree = at (length entry.answers == 0) agree
+pub agreed_at : (freedoms : List Freedom) (known : Known) (asked : List ℕ) (entry : Entry) (printed : Printed) → IsModels known
+    → answers_agree entry printed.said ≡ true → rulings_at freedoms known asked entry printed ≡ agreement_of entry
+agreed_at freedoms known asked entry printed models agree = at (length entry.answers == 0) agree
   where
     same : (t : Bool) → t ≡ true
-        → cond t Agrees (verdict_beside (freedom_at freedoms pairs entry printed) entry.answers (wanted_at pairs entry printed) (reasons_told entry.line (own_reasons printed) asked))
+        → cond t Agrees (verdict_beside (freedom_at freedoms known entry printed) entry.answers (wanted_at known entry printed) (reasons_at known asked entry printed))
         ≡ Agrees
     same true is = refl
     same false is = absurd (false≢true is)
 
     at : (t : Bool) → (t || are_same entry.answers (said_at entry printed)) ≡ true
-        → cond t [] (ruling_at freedoms pairs asked entry printed ∷ [])
+        → cond t [] (ruling_at freedoms known asked entry printed ∷ [])
         ≡ cond t [] (ruling_of entry Agrees ∷ [])
     at true is = refl
     at false is =
         ap (λ v. ruling_of entry v ∷ [])
-        (same (are_same entry.answers (wanted_at pairs entry printed))
-        (ap (are_same entry.answers) (lines-plain pairs (said_at entry printed) plain) ∙ is))
+        (same (are_same entry.answers (wanted_at known entry printed))
+        (ap (are_same entry.answers) (wanted-models known entry printed models) ∙ is))
 
 -- all answers so far agree
 abbrev pub AgreeSo : SteppedRun → Config → List Ruling → List Entry → List Entry → Type 0
 AgreeSo run config rulings left entries = (freedoms : List Freedom) → (judging : Judging)
     × (fold (with_entry config freedoms) judging left ≡ judging_of config freedoms entries)
-    × (judging.rulings ≡ rulings) × RanTo run false config judging.script × IsPlain judging.pairs
+    × (judging.rulings ≡ rulings) × RanTo run false config judging.script × IsModels judging.known
 
 pub none_agree : (run : SteppedRun) (config : Config) (rulings : List Ruling) (entries : List Entry) → rulings ≡ [] → RanTo run false config []
     → AgreeSo run config rulings entries entries
-none_agree run config rulings entries none ran = λ freedoms. (nothing_judged, refl, sym none, ran, tt)
+none_agree run config rulings entries none ran = λ freedoms. (nothing_judged, refl, sym none, ran, (tt, tt))
 
 pub more_agree : (run new : SteppedRun) (config : Config) (rulings more : List Ruling) (entries : List Entry) (i next : ℕ) (entry d : Entry)
     → i < length entries → next ≡ i + 1 → entry ≡ get_or entries i d
@@ -139,16 +175,16 @@ pub more_agree : (run new : SteppedRun) (config : Config) (rulings more : List R
     → more ≡ rulings ++ agreement_of entry
     → AgreeSo run config rulings (drop i entries) entries → AgreeSo new config more (drop next entries) entries
 more_agree run new config rulings more entries i next entry d within is is_entry goes agree adds kept = λ freedoms.
-    let (judging, folds, same, ran, plain) = kept freedoms in
+    let (judging, folds, same, ran, models) = kept freedoms in
     let later = with_models_entry config freedoms judging entry in
     let printed = printed_at config judging entry in
     let agrees : answers_agree entry printed.said ≡ true = agree false judging.script ran in (
       later,
-      one_more config freedoms judging later _ entries i next entry d entry printed within is is_entry (sym (entry-plain judging.pairs entry plain)) refl refl folds,
-      ap (λ r. judging.rulings ++ r) (agreed_at freedoms judging.pairs judging.asked entry printed plain agrees)
+      one_more config freedoms judging later _ entries i next entry d entry printed within is is_entry (sym (entry-plain judging.known.pairs entry models.0)) refl refl folds,
+      ap (λ r. judging.rulings ++ r) (agreed_at freedoms judging.known judging.asked entry printed models agrees)
           ∙ ap (λ r. r ++ agreement_of entry) same ∙ sym adds,
       goes false judging.script ran,
-      still-plain freedoms judging.pairs entry printed plain (none-or-said entry printed agrees),
+      still-models freedoms judging.known entry printed models (none-or-said entry printed agrees),
     )
 
 pub all_agree : (run : SteppedRun) (config : Config) (rulings : List Ruling) (entries : List Entry) (i : ℕ) → length entries ≤ i

@@ -3,6 +3,8 @@ mod SameLines
 mod NamedFreedoms
 mod Numbered
 mod PlainPairs
+mod ShownPlaces
+mod ShownZeros
 mod KeptLines
 mod Verdicts
 mod WholeScripts

@@ -6,20 +6,19 @@ use Rattle.std.specs.List.{list_any, list_all, flat_map}
 use Rattle.sp_cells.specs.Config.{Config}
 use Rattle.tool.specs.Scripts.{is_skipped, script_lines, with_numbers}
 use Rattle.judged.specs.Transcripts.{with_line_end, answer_marks, is_answer_line, answer_told, fresh_entry, with_answer, with_remark, line_added, nothing_read, all_entries, holds_remarks, own_line_text, remarks_text, entry_text}
-use Rattle.judged.specs.Answers.{said_behind, is_audit, reasons_told, wanted_of}
-use Rattle.judged.specs.Blanks.{first_answer}
-use Rattle.judged.specs.Judgements.{are_same, verdict_beside, through, printed_at, own_reasons, said_at, wanted_at, freedom_at, entry_verdict, ruling_at, rulings_at, with_models_entry, with_entry, nothing_judged, rulings_of, is_agreement}
+use Rattle.judged.specs.Answers.{said_behind, is_audit, wanted_of}
+use Rattle.judged.specs.Judgements.{are_same, verdict_beside, through, printed_at, said_at, wanted_at, reasons_at, freedom_at, entry_verdict, ruling_at, rulings_at, with_models_entry, with_entry, nothing_judged, rulings_of, is_agreement}
 use Rattle.judged.specs.Laws.{OwnAnswersLaw, answer_line, marks_for, own_lines, own_transcript}
 use Rattle.judged.specs.declared.bench.Printed.{Printed}
 use Rattle.judged.specs.declared.entry.Entry.{Entry}
 use Rattle.judged.specs.declared.freedom.Freedom.{Freedom}
 use Rattle.judged.specs.declared.judging.Judging.{Judging}
-use Rattle.judged.specs.declared.pairs.SessionPair.{SessionPair}
+use Rattle.judged.specs.declared.known.Known.{Known}
 use Rattle.judged.specs.declared.reading.Reading.{Reading}
 use Rattle.judged.specs.declared.ruling.Ruling.{Ruling}
 use Rattle.judged.specs.declared.ruling.Verdict.TheVariants.{Agrees}
-use Rattle.judged.proofs.Folded.{still-plain}
-use Rattle.judged.proofs.PlainPairs.{IsPlain, lines-plain, entry-plain}
+use Rattle.judged.proofs.Folded.{IsModels, wanted-models, still-models}
+use Rattle.judged.proofs.PlainPairs.{entry-plain}
 use Rattle.judged.proofs.SameLines.{are_same-Decides, and-true, both}
 
 abbrev test : Ruling → Bool
@@ -51,20 +50,20 @@ wanted_own said = at (list_any is_audit said) refl
 said_own : (entry : Entry) (printed : Printed) → entry.answers ≡ script_lines printed.said → said_at entry printed ≡ entry.answers
 said_own entry printed is = sym (ap (λ said. wanted_of entry.answers said) is) ∙ wanted_own entry.answers
 
-agreed : (freedoms : List Freedom) (pairs : List SessionPair) (asked : List ℕ) (entry : Entry) (printed : Printed) → IsPlain pairs
-    → entry.answers ≡ script_lines printed.said → entry_verdict freedoms pairs asked entry printed ≡ Agrees
-agreed freedoms pairs asked entry printed plain is =
-    let reasons = reasons_told entry.line (own_reasons printed) asked in
-    let wanted : wanted_at pairs entry printed ≡ entry.answers =
-    lines-plain pairs (said_at entry printed) plain ∙ said_own entry printed is in
-    let same : are_same entry.answers (wanted_at pairs entry printed) ≡ true =
-    (are_same-Decides entry.answers (wanted_at pairs entry printed)).1 (sym wanted) in
-    ap (λ t. cond t Agrees (verdict_beside (freedom_at freedoms pairs entry printed) entry.answers (wanted_at pairs entry printed) reasons)) same
+agreed : (freedoms : List Freedom) (known : Known) (asked : List ℕ) (entry : Entry) (printed : Printed) → IsModels known
+    → entry.answers ≡ script_lines printed.said → entry_verdict freedoms known asked entry printed ≡ Agrees
+agreed freedoms known asked entry printed models is =
+    let reasons = reasons_at known asked entry printed in
+    let wanted : wanted_at known entry printed ≡ entry.answers =
+    wanted-models known entry printed models ∙ said_own entry printed is in
+    let same : are_same entry.answers (wanted_at known entry printed) ≡ true =
+    (are_same-Decides entry.answers (wanted_at known entry printed)).1 (sym wanted) in
+    ap (λ t. cond t Agrees (verdict_beside (freedom_at freedoms known entry printed) entry.answers (wanted_at known entry printed) reasons)) same
 
 -- so far all agree, and the line at hand has no answer, or the model's
 record Fits (config : Config) (freedoms : List Freedom) (before : List ℕ) (reading : Reading) (judging : Judging) : Type 0 where
   judged : fold (with_entry config freedoms) nothing_judged reading.done ≡ judging
-  plain : IsPlain judging.pairs
+  models : IsModels judging.known
   agree : list_all test judging.rulings ≡ true
   script : judging.script ++ entry_text reading.current ≡ before
   answers : (reading.current.answers ≡ []) ⊎ (reading.current.answers ≡ said_behind config judging.script (through judging.script reading.current))
@@ -76,39 +75,39 @@ all-append (x ∷ xs) ys a b =
     and-true (test x) (list_all test (xs ++ ys)) p.0 (all-append xs ys p.1 b)
 
 -- the line at hand agrees, too
-at_hand : (config : Config) (freedoms : List Freedom) (judging : Judging) (entry : Entry) → IsPlain judging.pairs
+at_hand : (config : Config) (freedoms : List Freedom) (judging : Judging) (entry : Entry) → IsModels judging.known
     → (entry.answers ≡ []) ⊎ (entry.answers ≡ said_behind config judging.script (through judging.script entry))
-    → list_all test (rulings_at freedoms judging.pairs judging.asked entry (printed_at config judging entry)) ≡ true
+    → list_all test (rulings_at freedoms judging.known judging.asked entry (printed_at config judging entry)) ≡ true
 at_hand config freedoms judging entry plain (inl none) =
-    ap (λ (answers : List (List ℕ)). list_all test (cond (length answers == 0) [] (ruling_at freedoms judging.pairs judging.asked entry (printed_at config judging entry) ∷ []))) none
+    ap (λ (answers : List (List ℕ)). list_all test (cond (length answers == 0) [] (ruling_at freedoms judging.known judging.asked entry (printed_at config judging entry) ∷ []))) none
 at_hand config freedoms judging entry plain (inr is) = at (length entry.answers == 0)
   where
-    at : (t : Bool) → list_all test (cond t [] (ruling_at freedoms judging.pairs judging.asked entry (printed_at config judging entry) ∷ [])) ≡ true
+    at : (t : Bool) → list_all test (cond t [] (ruling_at freedoms judging.known judging.asked entry (printed_at config judging entry) ∷ [])) ≡ true
     at true = refl
-    at false = ap (λ v. is_agreement v && true) (agreed freedoms judging.pairs judging.asked entry (printed_at config judging entry) plain is)
+    at false = ap (λ v. is_agreement v && true) (agreed freedoms judging.known judging.asked entry (printed_at config judging entry) plain is)
 
 -- it is sent to the model as it stands
 stands : (config : Config) (freedoms : List Freedom) (before : List ℕ) (reading : Reading) (judging : Judging)
     → Fits config freedoms before reading judging
     → with_entry config freedoms judging reading.current ≡ with_models_entry config freedoms judging reading.current
 stands config freedoms before reading judging fits =
-    ap (with_models_entry config freedoms judging) (entry-plain judging.pairs reading.current fits.plain)
+    ap (with_models_entry config freedoms judging) (entry-plain judging.known.pairs reading.current fits.models.0)
 
 next : (config : Config) (freedoms : List Freedom) (before : List ℕ) (reading : Reading) (judging : Judging)
     → Fits config freedoms before reading judging
     → list_all test (with_models_entry config freedoms judging reading.current).rulings ≡ true
 next config freedoms before reading judging fits =
-    all-append judging.rulings (rulings_at freedoms judging.pairs judging.asked reading.current (printed_at config judging reading.current)) fits.agree
-    (at_hand config freedoms judging reading.current fits.plain fits.answers)
+    all-append judging.rulings (rulings_at freedoms judging.known judging.asked reading.current (printed_at config judging reading.current)) fits.agree
+    (at_hand config freedoms judging reading.current fits.models fits.answers)
 
--- sessions keep the model's numbers
-plain_by : (config : Config) (freedoms : List Freedom) (judging : Judging) (entry : Entry) → IsPlain judging.pairs
+-- sessions keep the model's numbers, and blank sectors zeros
+models_by : (config : Config) (freedoms : List Freedom) (judging : Judging) (entry : Entry) → IsModels judging.known
     → (entry.answers ≡ []) ⊎ (entry.answers ≡ said_behind config judging.script (through judging.script entry))
-    → IsPlain (with_models_entry config freedoms judging entry).pairs
-plain_by config freedoms judging entry plain (inl none) =
-    still-plain freedoms judging.pairs entry (printed_at config judging entry) plain (inl none)
-plain_by config freedoms judging entry plain (inr is) =
-    still-plain freedoms judging.pairs entry (printed_at config judging entry) plain (inr (sym (said_own entry (printed_at config judging entry) is)))
+    → IsModels (with_models_entry config freedoms judging entry).known
+models_by config freedoms judging entry plain (inl none) =
+    still-models freedoms judging.known entry (printed_at config judging entry) plain (inl none)
+models_by config freedoms judging entry plain (inr is) =
+    still-models freedoms judging.known entry (printed_at config judging entry) plain (inr (sym (said_own entry (printed_at config judging entry) is)))
 
 judged_all : (config : Config) (freedoms : List Freedom) (before : List ℕ) (reading : Reading) (judging : Judging)
     → Fits config freedoms before reading judging
@@ -223,7 +222,7 @@ own_by config freedoms remarks text texts n before reading judging behind no_ans
     ∙ behind (n + 1) (before ++ with_line_end text) (remark_read reading text) judging
     (record {
       judged = fits.judged;
-      plain = fits.plain;
+      models = fits.models;
       agree = fits.agree;
       script = remark_more judging.script reading.current text ∙ ap (λ b. b ++ with_line_end text) fits.script;
       answers = fits.answers;
@@ -240,7 +239,7 @@ own_by config freedoms remarks text texts n before reading judging behind no_ans
     (with_models_entry config freedoms judging reading.current)
     (record {
       judged = judged_all config freedoms before reading judging fits;
-      plain = plain_by config freedoms judging reading.current fits.plain fits.answers;
+      models = models_by config freedoms judging reading.current fits.models fits.answers;
       agree = next config freedoms before reading judging fits;
       script = ap (λ (t : Bool). (judging.script ++ entry_text reading.current) ++ (cond t [] (with_line_end text) ++ marks_for remarks said)) some
           ∙ ap (λ b. b ++ (with_line_end text ++ marks_for remarks said)) fits.script;
@@ -272,4 +271,4 @@ own config freedoms lines none =
     ap (λ h. list_all test (rulings_of config freedoms (all_entries (fold (line_added h) nothing_read (with_numbers 0 (own_transcript config lines))))))
     (same_remarks config lines)
     ∙ own_from config freedoms (holds_remarks lines) lines none 0 [] nothing_read nothing_judged
-    (record { judged = refl; plain = tt; agree = refl; script = refl; answers = inl refl })
+    (record { judged = refl; models = (tt, tt); agree = refl; script = refl; answers = inl refl })

@@ -5,7 +5,7 @@ use Rattle.judged.specs.Freedoms.{is_by, freedom_between}
 use Rattle.judged.specs.Judgements.{are_same, freedom_of, verdict_beside, is_agreement, is_allowance, is_wrong}
 use Rattle.judged.specs.Laws.{AgreesLaw, AllowsLaw, WrongLaw, NamesLaw, DiffersBy}
 use Rattle.judged.specs.declared.freedom.Freedom.{Freedom}
-use Rattle.judged.specs.declared.freedom.Freedom.TheVariants.{ErrorBits, BlankSectors, VendorBytes, Identity, SessionNumbers, ComIds, RandomBytes}
+use Rattle.judged.specs.declared.freedom.Freedom.TheVariants.{ErrorBits, BlankSectors, VendorBytes, Identity, SessionNumbers, ComIds, RandomBytes, Properties}
 use Rattle.judged.specs.declared.ruling.Verdict.{Verdict}
 use Rattle.judged.specs.declared.ruling.Verdict.TheVariants.{Agrees, Allowed, Wrong}
 use Rattle.judged.proofs.SameLines.{are_same-Decides}
@@ -134,3 +134,4 @@ named Identity = refl
 named SessionNumbers = refl
 named ComIds = refl
 named RandomBytes = refl
+named Properties = refl

@@ -7,10 +7,11 @@ use Rattle.hex.specs.Hex.{decode_sized}
 use Rattle.hex.specs.declared.error.FromHexError.{FromHexError}
 use Rattle.script_lines.specs.Words.{nth_word}
 use Rattle.judged.specs.Blanks.{is_digit, differs_by_blanks, differs_by_random}
+use Rattle.judged.specs.Properties.{differs_by_properties}
 use Rattle.judged.specs.SessionNumbers.{data_place, differs_by_number}
 use Rattle.judged.specs.declared.freedom.Freedom.{Freedom}
 use Rattle.judged.specs.declared.freedom.Span.{Span}
-use Rattle.judged.specs.declared.freedom.Freedom.TheVariants.{ErrorBits, BlankSectors, VendorBytes, Identity, SessionNumbers, ComIds, RandomBytes}
+use Rattle.judged.specs.declared.freedom.Freedom.TheVariants.{ErrorBits, BlankSectors, VendorBytes, Identity, SessionNumbers, ComIds, RandomBytes, Properties}
 
 -- The bits of the Error field to which ACS-3 (section 6.3) gives a meaning for a drive: the CRC of the
 -- interface (7), an uncorrectable error (6), ID not found (4) and abort (2). The others are obsolete, or
@@ -139,6 +140,7 @@ is_by asked heard wanted other Identity =
 is_by asked heard wanted other SessionNumbers = differs_by_number heard wanted
 is_by asked heard wanted other ComIds = differs_by_com_ids asked heard wanted
 is_by asked heard wanted other RandomBytes = differs_by_random heard wanted other
+is_by asked heard wanted other Properties = differs_by_properties heard wanted
 
 -- the first of the freedoms that are given by which it does
 unfoldable pub freedom_between : List Freedom → List ℕ → List ℕ → List ℕ → List ℕ → Option Freedom
@@ -153,10 +155,11 @@ freedom_name Identity = codes "identity"
 freedom_name SessionNumbers = codes "session-numbers"
 freedom_name ComIds = codes "com-ids"
 freedom_name RandomBytes = codes "random-bytes"
+freedom_name Properties = codes "properties"
 
 abbrev pub all_freedoms : List Freedom
 all_freedoms = ErrorBits ∷ BlankSectors ∷ VendorBytes ∷ Identity ∷ SessionNumbers ∷ ComIds
-    ∷ RandomBytes ∷ []
+    ∷ RandomBytes ∷ Properties ∷ []
 
 abbrev pub freedom_named : List ℕ → Option Freedom
 freedom_named name =
@@ -167,6 +170,7 @@ freedom_named name =
     else if bytes_eq name (codes "session-numbers") then Some SessionNumbers
     else if bytes_eq name (codes "com-ids") then Some ComIds
     else if bytes_eq name (codes "random-bytes") then Some RandomBytes
+    else if bytes_eq name (codes "properties") then Some Properties
     else None
 
 -- the freedoms of these names, where each is one

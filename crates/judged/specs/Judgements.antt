@@ -12,15 +12,19 @@ use Rattle.judged.specs.Blanks.{other_text, other_config, first_answer}
 use Rattle.judged.specs.Freedoms.{asks_level0, freedom_between, freedom_name}
 use Rattle.judged.specs.SessionNumbers.{number_told}
 use Rattle.judged.specs.SessionPairs.{drives_lines, as_model, pairs_with}
+use Rattle.judged.specs.Shown.{first_read, shown_lines, shown_other, changed_reasons, newly_shown, kept_behind}
 use Rattle.judged.specs.declared.bench.Printed.{Printed}
 use Rattle.judged.specs.declared.entry.Entry.{Entry}
 use Rattle.judged.specs.declared.freedom.Freedom.{Freedom}
+use Rattle.judged.specs.declared.freedom.Freedom.TheVariants.{ErrorBits, BlankSectors, VendorBytes, Identity, SessionNumbers, ComIds, RandomBytes, Properties}
 use Rattle.judged.specs.declared.pairs.SessionPair.{SessionPair}
 use Rattle.judged.specs.declared.ruling.Ruling.{Ruling}
 use Rattle.judged.specs.declared.ruling.Verdict.{Verdict}
 use Rattle.judged.specs.declared.ruling.Verdict.TheVariants.{Agrees, Allowed, Wrong}
 use Rattle.judged.specs.declared.judging.Judging.{Judging}
+use Rattle.judged.specs.declared.known.Known.{Known}
 use Rattle.judged.specs.declared.script.Terms.{Terms}
+use Rattle.judged.specs.declared.shown.ShownSector.{ShownSector}
 
 -- whether two answers have the same lines
 abbrev pub are_same : List (List ℕ) → List (List ℕ) → Bool
@@ -90,26 +94,92 @@ own_reasons printed = drop (length printed.said) printed.explained
 abbrev pub said_at : Entry → Printed → List (List ℕ)
 said_at entry printed = wanted_of entry.answers (script_lines printed.said)
 
-abbrev pub wanted_at : List SessionPair → Entry → Printed → List (List ℕ)
-wanted_at pairs entry printed = drives_lines pairs (said_at entry printed)
+abbrev pub named_at : List SessionPair → Entry → Printed → List (List ℕ)
+named_at pairs entry printed = drives_lines pairs (said_at entry printed)
+
+-- what the model answers where every write before wrote another byte, and random bytes are others
+abbrev pub model_other : Printed → List ℕ
+model_other printed = first_answer (script_lines printed.other)
+
+-- What is known of the drive: the numbers of its sessions, and what blank sectors were shown to hold.
+abbrev pub wanted_at : Known → Entry → Printed → List (List ℕ)
+wanted_at known entry printed = shown_lines known.shown (first_read entry.line)
+    (model_other printed) (named_at known.pairs entry printed)
+
+-- what of it is left open
+abbrev pub other_at : Known → Entry → Printed → List ℕ
+other_at known entry printed = shown_other known.shown (first_read entry.line)
+    (first_answer (named_at known.pairs entry printed)) (model_other printed)
+
+-- why it must be said that a sector is as it was shown
+abbrev pub changed_at_entry : Known → Entry → Printed → List ℕ
+changed_at_entry known entry printed = changed_reasons known.shown (first_read entry.line)
+    (first_answer entry.answers) (first_answer (named_at known.pairs entry printed))
+    (model_other printed)
+
+abbrev pub reasons_at : Known → List ℕ → Entry → Printed → List ℕ
+reasons_at known asked entry printed = reasons_told entry.line (own_reasons printed) asked
+    ++ changed_at_entry known entry printed
 
 -- how answers stand to what must be said
-abbrev pub entry_verdict : List Freedom → List SessionPair → List ℕ → Entry → Printed → Verdict
-entry_verdict freedoms pairs asked entry printed =
+abbrev pub entry_verdict : List Freedom → Known → List ℕ → Entry → Printed → Verdict
+entry_verdict freedoms known asked entry printed =
     answers_verdict freedoms entry.line entry.answers
-    (wanted_at pairs entry printed) (first_answer (script_lines printed.other))
-    (reasons_told entry.line (own_reasons printed) asked)
+    (wanted_at known entry printed) (other_at known entry printed)
+    (reasons_at known asked entry printed)
 
 -- the freedom by which they differ
-abbrev pub freedom_at : List Freedom → List SessionPair → Entry → Printed → Option Freedom
-freedom_at freedoms pairs entry printed =
-    freedom_of freedoms entry.line entry.answers (wanted_at pairs entry printed)
-    (first_answer (script_lines printed.other))
+abbrev pub freedom_at : List Freedom → Known → Entry → Printed → Option Freedom
+freedom_at freedoms known entry printed =
+    freedom_of freedoms entry.line entry.answers (wanted_at known entry printed)
+    (other_at known entry printed)
 
-abbrev pub pairs_behind : List Freedom → List SessionPair → Entry → Printed → List SessionPair
-pairs_behind freedoms pairs entry printed =
-    pairs_with pairs (freedom_at freedoms pairs entry printed)
+abbrev pub pairs_behind : List Freedom → Known → Entry → Printed → List SessionPair
+pairs_behind freedoms known entry printed =
+    pairs_with known.pairs (freedom_at freedoms known entry printed)
     (number_told (first_answer entry.answers)) (number_told (first_answer (said_at entry printed)))
+
+-- by which a drive says of its own what blank sectors hold
+abbrev pub is_of_blanks : Freedom → Bool
+is_of_blanks ErrorBits = false
+is_of_blanks BlankSectors = true
+is_of_blanks VendorBytes = false
+is_of_blanks Identity = false
+is_of_blanks SessionNumbers = false
+is_of_blanks ComIds = false
+is_of_blanks RandomBytes = false
+is_of_blanks Properties = false
+
+abbrev pub is_by_blanks : Option Freedom → Bool
+is_by_blanks None = false
+is_by_blanks (Some freedom) = is_of_blanks freedom
+
+-- answers show what blank sectors hold where they are what must be said, or differ in that alone
+abbrev pub shows_at : List Freedom → Known → Entry → Printed → Bool
+shows_at freedoms known entry printed = are_same entry.answers (wanted_at known entry printed)
+    || is_by_blanks (freedom_at freedoms known entry printed)
+
+abbrev pub learned_by_read : Option ℕ → List Freedom → Known → Entry → Printed → List ShownSector
+learned_by_read None freedoms known entry printed = []
+learned_by_read (Some first) freedoms known entry printed =
+    if shows_at freedoms known entry printed
+    then newly_shown entry.number first (first_answer entry.answers)
+    (first_answer (wanted_at known entry printed)) (other_at known entry printed)
+    else []
+
+abbrev pub learned_at : List Freedom → Known → Entry → Printed → List ShownSector
+learned_at freedoms known entry printed =
+    learned_by_read (first_read entry.line) freedoms known entry printed
+
+abbrev pub shown_later : List Freedom → Known → Entry → Printed → List ShownSector
+shown_later freedoms known entry printed = kept_behind entry.line known.shown
+    ++ learned_at freedoms known entry printed
+
+abbrev pub known_behind : List Freedom → Known → Entry → Printed → Known
+known_behind freedoms known entry printed = record {
+  pairs = pairs_behind freedoms known entry printed;
+  shown = shown_later freedoms known entry printed;
+}
 
 -- A line whose answer tells what the drive did: behind a wrong one it may be in another state than the model. A
 -- read, also of Level 0, leaves all as it was, and so does a line that prints nothing. What a client of a port
@@ -143,14 +213,14 @@ ruling_of entry verdict = record {
   verdict = verdict;
 }
 
-abbrev pub ruling_at : List Freedom → List SessionPair → List ℕ → Entry → Printed → Ruling
-ruling_at freedoms pairs asked entry printed =
-    ruling_of entry (entry_verdict freedoms pairs asked entry printed)
+abbrev pub ruling_at : List Freedom → Known → List ℕ → Entry → Printed → Ruling
+ruling_at freedoms known asked entry printed =
+    ruling_of entry (entry_verdict freedoms known asked entry printed)
 
 -- a line without answers is not judged: what the drive said was not seen, and is taken for the model's
-abbrev pub rulings_at : List Freedom → List SessionPair → List ℕ → Entry → Printed → List Ruling
-rulings_at freedoms pairs asked entry printed =
-    if length entry.answers == 0 then [] else ruling_at freedoms pairs asked entry printed ∷ []
+abbrev pub rulings_at : List Freedom → Known → List ℕ → Entry → Printed → List Ruling
+rulings_at freedoms known asked entry printed =
+    if length entry.answers == 0 then [] else ruling_at freedoms known asked entry printed ∷ []
 
 -- whether the answers to a line, if there are some, are what the model prints
 abbrev pub answers_agree : Entry → List ℕ → Bool
@@ -170,8 +240,8 @@ entry_added freedoms judging entry printed = record {
   script = judging.script ++ entry_text entry;
   other = judging.other ++ other_text entry;
   asked = asked_behind judging.asked entry printed;
-  pairs = pairs_behind freedoms judging.pairs entry printed;
-  rulings = judging.rulings ++ rulings_at freedoms judging.pairs judging.asked entry printed;
+  known = known_behind freedoms judging.known entry printed;
+  rulings = judging.rulings ++ rulings_at freedoms judging.known judging.asked entry printed;
 }
 
 -- behind each line the model goes on by its own answer
@@ -182,10 +252,13 @@ with_models_entry config freedoms judging entry =
 -- a line is the model's where it names a session by the model's number
 abbrev pub with_entry : Config → List Freedom → Judging → Entry → Judging
 with_entry config freedoms judging entry =
-    with_models_entry config freedoms judging (as_model judging.pairs entry)
+    with_models_entry config freedoms judging (as_model judging.known.pairs entry)
+
+abbrev pub nothing_known : Known
+nothing_known = record { pairs = []; shown = [] }
 
 abbrev pub nothing_judged : Judging
-nothing_judged = record { script = []; other = []; asked = []; pairs = []; rulings = [] }
+nothing_judged = record { script = []; other = []; asked = []; known = nothing_known; rulings = [] }
 
 abbrev pub judging_of : Config → List Freedom → List Entry → Judging
 judging_of config freedoms entries = fold (with_entry config freedoms) nothing_judged entries

@@ -3,6 +3,8 @@ pub mod Answers
 pub mod Blanks
 pub mod SessionNumbers
 pub mod SessionPairs
+pub mod Properties
+pub mod Shown
 pub mod Freedoms
 pub mod Judgements
 pub mod Laws

@@ -9,7 +9,7 @@ use Rattle.script_lines.specs.Words.{nth_word, after_word, after_words}
 use Rattle.judged.specs.SessionNumbers.{received_line, packet_told}
 use Rattle.judged.specs.declared.entry.Entry.{Entry}
 use Rattle.judged.specs.declared.freedom.Freedom.{Freedom}
-use Rattle.judged.specs.declared.freedom.Freedom.TheVariants.{ErrorBits, BlankSectors, VendorBytes, Identity, SessionNumbers, ComIds, RandomBytes}
+use Rattle.judged.specs.declared.freedom.Freedom.TheVariants.{ErrorBits, BlankSectors, VendorBytes, Identity, SessionNumbers, ComIds, RandomBytes, Properties}
 use Rattle.judged.specs.declared.pairs.SessionPair.{SessionPair}
 use Rattle.judged.specs.declared.received.Received.{Received}
 
@@ -150,6 +150,7 @@ is_of_numbers Identity = false
 is_of_numbers SessionNumbers = true
 is_of_numbers ComIds = false
 is_of_numbers RandomBytes = false
+is_of_numbers Properties = false
 
 -- The number that the drive gave a session: the one that it told where that is allowed, and else the model's.
 abbrev pub number_given : Option Freedom → Option ℕ → ℕ → ℕ

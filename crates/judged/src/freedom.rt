@@ -5,6 +5,7 @@ ghost use Rattle.judged.specs.Freedoms.{error_in, are_open_bits, are_open_errors
 
 use crate::answers::behind;
 use crate::blanks::{differs_by_blanks, differs_by_random, front, is_digit};
+use crate::properties::differs_by_properties;
 use crate::received::{DATA_PLACE, differs_by_number};
 use basics::byte_sum;
 use script_lines::Words;
@@ -33,6 +34,8 @@ pub enum Freedom {
     ComIds,
     /// The bytes that Random gives (TCG Core 2.01, section 5.6.4.1).
     RandomBytes,
+    /// The values that the TPer tells of itself by Properties, none below the least that Opal SSC 2.01 wants (section 4.1.1.1).
+    Properties,
 }
 
 /// The bits of the Error field that have a meaning.
@@ -45,7 +48,7 @@ const ABORT_BIT: u8 = 4;
 const ERROR_PLACE: usize = 8;
 
 /// All that the model knows.
-const ALL_FREEDOMS: [Freedom; 7] = [
+const ALL_FREEDOMS: [Freedom; 8] = [
     Freedom::ErrorBits,
     Freedom::BlankSectors,
     Freedom::VendorBytes,
@@ -53,6 +56,7 @@ const ALL_FREEDOMS: [Freedom; 7] = [
     Freedom::SessionNumbers,
     Freedom::ComIds,
     Freedom::RandomBytes,
+    Freedom::Properties,
 ];
 
 /// The error in a line `fail 51 04`.
@@ -273,6 +277,7 @@ impl Freedom {
             Freedom::SessionNumbers => differs_by_number(alloc, heard, wanted),
             Freedom::ComIds => Ok(differs_by_com_ids(asked, heard, wanted)),
             Freedom::RandomBytes => Ok(differs_by_random(heard, wanted, other)),
+            Freedom::Properties => differs_by_properties(alloc, heard, wanted),
         }
     }
 
@@ -288,6 +293,7 @@ impl Freedom {
             Freedom::SessionNumbers => b"session-numbers",
             Freedom::ComIds => b"com-ids",
             Freedom::RandomBytes => b"random-bytes",
+            Freedom::Properties => b"properties",
         }
     }
 
@@ -309,6 +315,8 @@ impl Freedom {
             Some(Freedom::ComIds)
         } else if name == b"random-bytes".as_slice() {
             Some(Freedom::RandomBytes)
+        } else if name == b"properties".as_slice() {
+            Some(Freedom::Properties)
         } else {
             None
         }
@@ -335,7 +343,7 @@ impl Model for Freedoms {
 pub enum FreedomFault {
     #[error("out of memory")]
     OutOfMemory,
-    #[error("--freedom is none of error-bits, blank-sectors, vendor-bytes, identity, session-numbers, com-ids and random-bytes")]
+    #[error("--freedom is none of error-bits, blank-sectors, vendor-bytes, identity, session-numbers, com-ids, random-bytes and properties")]
     Unknown,
 }
 

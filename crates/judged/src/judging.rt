@@ -1,24 +1,25 @@
 //! The answers of a transcript, judged one after the other.
 
-ghost use Rattle.std.specs.Prelude.{◌≡◌, ◌++◌, ◌∷◌, [], false, ℕ, Bool, List, IfOk, IfSome, OnOk};
+ghost use Rattle.std.specs.Prelude.{◌≡◌, ◌++◌, ◌∷◌, [], false, ℕ, Bool, List, Some, IfOk, IfSome, OnOk};
 ghost use Rattle.runs.specs.Stepped.{RanTo, RunStands};
 ghost use Rattle.judged.specs.declared.freedom.Freedom.{Freedom};
 ghost use Rattle.judged.specs.Answers.{text_behind};
 ghost use Rattle.judged.specs.Benches.{BenchFits, BenchStands};
 ghost use Rattle.judged.specs.Transcripts.{entry_text};
-ghost use Rattle.judged.specs.Judgements.{through, are_same, freedom_of, behind_commas, joined_answer, answer_behind_words, wrong_text, verdict_beside, answers_verdict, can_change, ruling_of, answers_agree, agreement_of, own_reasons, said_at, wanted_at, entry_verdict, freedom_at, nothing_judged, judging_of, rulings_of, script_status};
+ghost use Rattle.judged.specs.Judgements.{through, are_same, freedom_of, behind_commas, joined_answer, answer_behind_words, wrong_text, verdict_beside, answers_verdict, can_change, ruling_of, answers_agree, agreement_of, entry_verdict, freedom_at, wanted_at, is_by_blanks, shows_at, learned_by_read, learned_at, nothing_judged, judging_of, rulings_of, script_status};
 
-use crate::answers::{agree_with, behind, is_receiving, reasons_told, wanted_of};
+use crate::answers::{agree_with, behind, is_receiving};
 use crate::bench::{Bench, Printed};
 use crate::blanks::{append_other_text, first_answer};
 use crate::entry::Entry;
 use crate::freedom::{Freedom, Freedoms, asks_level0};
-use crate::pairs::{SessionPairs, number_given};
+use crate::known::{Known, other_at, own_reasons, reasons_at, said_at, wanted_at};
+use crate::pairs::number_given;
 use crate::received::number_told;
 use crate::ruling::{Ruling, Rulings, Verdict};
+use crate::shown::{ShownSectors, first_read};
 use crate::text::Text;
 use basics::Bytes;
-use runs::explored::Lines;
 use runs::recorded::SteppedRun;
 use script_lines::Words;
 use std::alloc::{AllocError, Global};
@@ -184,53 +185,32 @@ fn ruling_of(entry: &Entry, verdict: Verdict) -> Ruling
     }
 }
 
-/// What the model says to a line that a drive must say, too.
-fn said_at(alloc: Global, entry: &Entry, printed: &Printed) -> Result<Lines, AllocError>
-    ensures { IfOk result (λ said. said ≡ said_at entry.now printed.now) }
-{
-    let said = Lines::of_script(alloc, printed.said.as_slice())?;
-    wanted_of(alloc, entry.answers.as_slice(), said.as_slice())
-}
-
-/// The same, with the drive's number of the session.
-fn wanted_at(
-    alloc: Global,
-    pairs: &SessionPairs,
-    entry: &Entry,
-    printed: &Printed,
-) -> Result<Lines, AllocError>
-    ensures { IfOk result (λ wanted. wanted ≡ wanted_at pairs.now entry.now printed.now) }
-{
-    let said = said_at(alloc, entry, printed)?;
-    pairs.drives_lines(alloc, said.as_slice())
-}
-
 /// How the answers to a line stand to what must be said.
 fn entry_verdict(
     alloc: Global,
     freedoms: &Freedoms,
-    pairs: &SessionPairs,
+    known: &Known,
     asked: &[u8],
     entry: &Entry,
     printed: &Printed,
 ) -> Result<Verdict, AllocError>
     ensures { IfOk result (λ verdict. verdict
-        ≡ entry_verdict freedoms.now pairs.now asked.now entry.now printed.now) }
+        ≡ entry_verdict freedoms.now known.now asked.now entry.now printed.now) }
 {
-    let line = entry.line.as_slice();
-    let heard = entry.answers.as_slice();
-    let wanted = wanted_at(alloc, pairs, entry, printed)?;
-    let other = Lines::of_script(alloc, printed.other.as_slice())?;
-    let other = first_answer(other.as_slice());
-    let reasons = reasons_told(line, own_reasons(printed), asked);
+    let wanted = wanted_at(alloc, known, entry, printed)?;
+    if are_same(entry.answers.as_slice(), wanted.as_slice()) {
+        return Ok(Verdict::Agrees);
+    }
+    let other = other_at(alloc, known, entry, printed)?;
+    let reasons = reasons_at(alloc, known, asked, entry, printed)?;
     answers_verdict(
         alloc,
         freedoms,
-        line,
-        heard,
+        entry.line.as_slice(),
+        entry.answers.as_slice(),
         wanted.as_slice(),
-        other,
-        reasons,
+        other.as_slice(),
+        reasons.as_slice(),
     )
 }
 
@@ -238,26 +218,95 @@ fn entry_verdict(
 fn freedom_at(
     alloc: Global,
     freedoms: &Freedoms,
-    pairs: &SessionPairs,
+    known: &Known,
     entry: &Entry,
     printed: &Printed,
 ) -> Result<Option<Freedom>, AllocError>
     ensures { IfOk result (λ freedom. freedom
-        ≡ freedom_at freedoms.now pairs.now entry.now printed.now) }
+        ≡ freedom_at freedoms.now known.now entry.now printed.now) }
 {
     let line = entry.line.as_slice();
     let heard = entry.answers.as_slice();
-    let wanted = wanted_at(alloc, pairs, entry, printed)?;
-    let other = Lines::of_script(alloc, printed.other.as_slice())?;
-    let other = first_answer(other.as_slice());
-    freedom_of(alloc, freedoms, line, heard, wanted.as_slice(), other)
+    let wanted = wanted_at(alloc, known, entry, printed)?;
+    let other = other_at(alloc, known, entry, printed)?;
+    freedom_of(
+        alloc,
+        freedoms,
+        line,
+        heard,
+        wanted.as_slice(),
+        other.as_slice(),
+    )
 }
 
-/// The reasons of what a line prints.
-fn own_reasons(printed: &Printed) -> &[u8]
-    ensures { result.now ≡ own_reasons printed.now }
+/// Whether answers differ in what blank sectors hold.
+fn is_by_blanks(freedom: Option<Freedom>) -> bool
+    ensures { result ≡ is_by_blanks freedom }
 {
-    behind(printed.explained.as_slice(), printed.said.as_slice().len())
+    match freedom {
+        Some(Freedom::BlankSectors) => true,
+        _ => false,
+    }
+}
+
+/// Whether the answers to a line show what blank sectors hold: they are what must be said, or differ in that alone.
+fn shows_at(
+    alloc: Global,
+    freedoms: &Freedoms,
+    known: &Known,
+    entry: &Entry,
+    printed: &Printed,
+    wanted: &[Bytes],
+) -> Result<bool, AllocError>
+    requires { wanted.now ≡ wanted_at known.now entry.now printed.now }
+    ensures { IfOk result (λ shows. shows
+        ≡ shows_at freedoms.now known.now entry.now printed.now) }
+{
+    if are_same(entry.answers.as_slice(), wanted) {
+        return Ok(true);
+    }
+    let freedom = freedom_at(alloc, freedoms, known, entry, printed)?;
+    Ok(is_by_blanks(freedom))
+}
+
+/// What the answers to a line show of blank sectors, whose first read sector is this.
+fn learned_by_read(
+    alloc: Global,
+    first: u64,
+    freedoms: &Freedoms,
+    known: &Known,
+    entry: &Entry,
+    printed: &Printed,
+) -> Result<ShownSectors, AllocError>
+    ensures { IfOk result (λ learned. learned
+        ≡ learned_by_read (Some first) freedoms.now known.now entry.now printed.now) }
+{
+    let wanted = wanted_at(alloc, known, entry, printed)?;
+    let wanted = wanted.as_slice();
+    if !shows_at(alloc, freedoms, known, entry, printed, wanted)? {
+        return Ok(ShownSectors::new(alloc));
+    }
+    let heard = first_answer(entry.answers.as_slice());
+    let other = other_at(alloc, known, entry, printed)?;
+    let wanted = first_answer(wanted);
+    ShownSectors::newly(alloc, entry.number, first, heard, wanted, other.as_slice())
+}
+
+/// The same of any line.
+fn learned_at(
+    alloc: Global,
+    freedoms: &Freedoms,
+    known: &Known,
+    entry: &Entry,
+    printed: &Printed,
+) -> Result<ShownSectors, AllocError>
+    ensures { IfOk result (λ learned. learned
+        ≡ learned_at freedoms.now known.now entry.now printed.now) }
+{
+    match first_read(entry.line.as_slice()) {
+        Some(first) => learned_by_read(alloc, first, freedoms, known, entry, printed),
+        None => Ok(ShownSectors::new(alloc)),
+    }
 }
 
 /// How far a transcript is judged.
@@ -269,14 +318,14 @@ pub struct Judging {
     pub other: Text,
     /// The reasons of the last line that does not receive.
     pub asked: Text,
-    /// The numbers of the sessions that began.
-    pub pairs: SessionPairs,
+    /// What is known of the drive.
+    pub known: Known,
     pub rulings: Rulings,
 }
 
 impl Judging {
     ghost use Rattle.std.specs.Prelude.{◌≡◌, ◌++◌, ◌∷◌, [], OnOk};
-    ghost use Rattle.judged.specs.Judgements.{nothing_judged, rulings_at, asked_behind, pairs_behind, entry_added};
+    ghost use Rattle.judged.specs.Judgements.{nothing_judged, rulings_at, asked_behind, pairs_behind, known_behind, entry_added};
 
     /// Nothing is judged.
     fn new(alloc: Global) -> Judging
@@ -286,7 +335,7 @@ impl Judging {
             script: Text::new(alloc),
             other: Text::new(alloc),
             asked: Text::new(alloc),
-            pairs: SessionPairs::new(alloc),
+            known: Known::new(alloc),
             rulings: Rulings::new(alloc),
         }
     }
@@ -302,15 +351,15 @@ impl Judging {
         ensures script { self.new.script ≡ self.old.script }
         ensures other { self.new.other ≡ self.old.other }
         ensures asked { self.new.asked ≡ self.old.asked }
-        ensures pairs { self.new.pairs ≡ self.old.pairs }
+        ensures known { self.new.known ≡ self.old.known }
         ensures rulings { OnOk result (self.new.rulings ≡ self.old.rulings
-            ++ rulings_at freedoms.now self.old.pairs self.old.asked entry.now printed.now) }
+            ++ rulings_at freedoms.now self.old.known self.old.asked entry.now printed.now) }
     {
         if entry.answers.as_slice().is_empty() {
             return Ok(());
         }
         let asked = self.asked.as_slice();
-        let verdict = entry_verdict(alloc, freedoms, &self.pairs, asked, entry, printed)?;
+        let verdict = entry_verdict(alloc, freedoms, &self.known, asked, entry, printed)?;
         self.rulings.push(ruling_of(entry, verdict))
     }
 
@@ -324,7 +373,7 @@ impl Judging {
         ensures script { self.new.script ≡ self.old.script }
         ensures other { self.new.other ≡ self.old.other }
         ensures rulings { self.new.rulings ≡ self.old.rulings }
-        ensures pairs { self.new.pairs ≡ self.old.pairs }
+        ensures known { self.new.known ≡ self.old.known }
         ensures asked { OnOk result (self.new.asked
             ≡ asked_behind self.old.asked entry.now printed.now) }
     {
@@ -343,8 +392,9 @@ impl Judging {
         entry: &Entry,
         printed: &Printed,
     ) -> Result<(), AllocError>
-        ensures pairs { OnOk result (self.new.pairs
-            ≡ pairs_behind freedoms.now self.old.pairs entry.now printed.now) }
+        ensures pairs { OnOk result (self.new.known.pairs
+            ≡ pairs_behind freedoms.now self.old.known entry.now printed.now) }
+        ensures shown { self.new.known.shown ≡ self.old.known.shown }
         ensures script { self.new.script ≡ self.old.script }
         ensures other { self.new.other ≡ self.old.other }
         ensures asked { self.new.asked ≡ self.old.asked }
@@ -354,9 +404,32 @@ impl Judging {
         let Some(model) = number_told(alloc, first_answer(said.as_slice()))? else {
             return Ok(());
         };
-        let freedom = freedom_at(alloc, freedoms, &self.pairs, entry, printed)?;
+        let freedom = freedom_at(alloc, freedoms, &self.known, entry, printed)?;
         let heard = number_told(alloc, first_answer(entry.answers.as_slice()))?;
-        self.pairs.add(model, number_given(freedom, heard, model))
+        self.known
+            .pairs
+            .add(model, number_given(freedom, heard, model))
+    }
+
+    /// Keeps what is known of the drive.
+    fn keep_known(
+        &mut self,
+        alloc: Global,
+        freedoms: &Freedoms,
+        entry: &Entry,
+        printed: &Printed,
+    ) -> Result<(), AllocError>
+        ensures known { OnOk result (self.new.known
+            ≡ known_behind freedoms.now self.old.known entry.now printed.now) }
+        ensures script { self.new.script ≡ self.old.script }
+        ensures other { self.new.other ≡ self.old.other }
+        ensures asked { self.new.asked ≡ self.old.asked }
+        ensures rulings { self.new.rulings ≡ self.old.rulings }
+    {
+        let learned = learned_at(alloc, freedoms, &self.known, entry, printed)?;
+        self.keep_numbers(alloc, freedoms, entry, printed)?;
+        self.known.shown.keep_behind(alloc, entry.line.as_slice())?;
+        self.known.shown.append(&learned)
     }
 
     /// Judges the answers to one line more, for which the model prints this.
@@ -372,7 +445,7 @@ impl Judging {
     {
         self.judge(alloc, freedoms, entry, printed)?;
         self.keep_reasons(alloc, entry, printed)?;
-        self.keep_numbers(alloc, freedoms, entry, printed)?;
+        self.keep_known(alloc, freedoms, entry, printed)?;
         entry.append_text(&mut self.script)?;
         append_other_text(&mut self.other, entry)
     }
@@ -465,7 +538,7 @@ fn judge_on(
 {
     let mut judging = Judging::new(alloc);
     for entry in entries {
-        let entry = judging.pairs.as_model(alloc, entry)?;
+        let entry = judging.known.pairs.as_model(alloc, entry)?;
         let printed = bench.print(alloc, options, &entry)?;
         judging.add(alloc, freedoms, &entry, &printed)?;
     }

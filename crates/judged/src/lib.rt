@@ -8,12 +8,15 @@ mod blanks;
 mod entry;
 mod freedom;
 mod judging;
+mod known;
 mod laws;
 mod pairs;
+mod properties;
 mod reading;
 mod received;
 mod ruling;
 mod script;
+mod shown;
 mod telling;
 mod text;
 

@@ -133,7 +133,7 @@ fn token_number(token: &[u8]) -> Option<u32>
 }
 
 /// How many bytes the token has that tokens begin with, a tiny or a short atom.
-fn token_size(tokens: &[u8]) -> usize
+pub(crate) fn token_size(tokens: &[u8]) -> usize
     ensures exact { result ≡ token_size tokens.now }
     ensures most { result ≤ 128 }
 {

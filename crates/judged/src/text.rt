@@ -1,6 +1,6 @@
 //! A text that grows.
 
-use basics::Bytes;
+use basics::{Bytes, append_decimal};
 use std::alloc::{AllocError, Global};
 use std::marker::Model;
 
@@ -19,7 +19,8 @@ impl Model for Text {
 }
 
 impl Text {
-    ghost use Rattle.std.specs.Prelude.{◌≡◌, ◌++◌, [], OnOk};
+    ghost use Rattle.std.specs.Prelude.{◌≡◌, ◌++◌, [], decimal, IfOk, OnOk};
+    ghost use Rattle.judged.specs.Shown.{put_over};
     ghost use Rattle.judged.specs.Transcripts.{with_line_end};
 
     /// An empty text.
@@ -29,6 +30,14 @@ impl Text {
         Text {
             items: Vec::new(alloc),
         }
+    }
+
+    /// A text of these bytes.
+    pub fn of(alloc: Global, bytes: &[u8]) -> Result<Text, AllocError>
+        ensures { IfOk result (λ text. text ≡ bytes.now) }
+    {
+        let items = Vec::from_slice(alloc, bytes)?;
+        Ok(Text { items })
     }
 
     /// No byte any more, with the same room.
@@ -50,6 +59,26 @@ impl Text {
         ensures { OnOk result (self.new ≡ self.old ++ bytes.now) }
     {
         self.items.extend_from_slice(bytes)
+    }
+
+    /// Puts bytes over those that stand from a place on.
+    pub fn put(&mut self, place: usize, bytes: &[u8]) -> Result<(), AllocError>
+        ensures { OnOk result (self.new ≡ put_over place bytes.now self.old) }
+    {
+        let size = self.items.len();
+        if place <= size && bytes.len() <= size - place {
+            self.items[place..place + bytes.len()].copy_from_slice(bytes);
+            return Ok(());
+        }
+        self.items.truncate(place);
+        self.items.extend_from_slice(bytes)
+    }
+
+    /// Puts the digits of a number behind the others.
+    pub fn append_number(&mut self, alloc: Global, number: u64) -> Result<(), AllocError>
+        ensures { OnOk result (self.new ≡ self.old ++ decimal number) }
+    {
+        append_decimal(alloc, &mut self.items, number)
     }
 
     /// Puts a line of a script behind the others, with its end.
