@@ -23,7 +23,7 @@ pub enum PartFault {
     #[error("it is one of {count} parts, and {there} are given")]
     Count { count: u64, there: usize },
     #[error("it is part {number}, where part {wanted} is wanted")]
-    Number { number: u64, wanted: usize },
+    Number { number: u64, wanted: u64 },
 }
 
 /// Tells what is wrong with the text in a place, by its name.
@@ -37,17 +37,17 @@ fn tell_fault<E: Write>(
     writeln!(faults, "error: {name}: {fault}").map_err(|_| RunError::Write)
 }
 
-/// What is wrong with a part in this place, from 0.
-fn unfit(first: &Part, place: usize, part: &Part) -> Option<PartFault>
-    ensures { is_some result ≡ not (has_its_place first.now (place + 1) part.now) }
+/// What is wrong with a part where this one is wanted.
+fn unfit(first: &Part, wanted: u64, part: &Part) -> Option<PartFault>
+    ensures { is_some result ≡ not (has_its_place first.now wanted part.now) }
 {
     if part.count != first.count {
         return Some(PartFault::OtherSearch);
     }
-    if part.number != place as u64 + 1 {
+    if part.number != wanted {
         return Some(PartFault::Number {
             number: part.number,
-            wanted: place + 1,
+            wanted,
         });
     }
     if !is_same_search(&first.asked, &part.asked) {
@@ -61,7 +61,7 @@ fn first_unfit(first: &Part, parts: &[Part]) -> Option<(usize, PartFault)>
     ensures { is_some result ≡ not (all_fit first.now 1 parts.now) }
 {
     for i in 0..parts.len() {
-        if let Some(fault) = unfit(first, i, &parts[i]) {
+        if let Some(fault) = unfit(first, i as u64 + 1, &parts[i]) {
             return Some((i, fault));
         }
     }
