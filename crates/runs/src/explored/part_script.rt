@@ -99,12 +99,17 @@ pub fn explore_part<R: Read + Drop, W: Write, E: Write>(
 {
     let text = whole_text(alloc, input)?;
     let lines = Lines::of_script(alloc, &text)?;
-    let search = search_by(alloc, plan, lines.as_slice())?;
-    let opening = search.opening.as_slice();
-    let status = run_script_with_faults(alloc, opening, &mut io::sink(), faults, options)?;
+    let lines = lines.as_slice();
+    let search = search_by(alloc, plan, lines)?;
+    let status = run_script_with_faults(
+        alloc,
+        search.opening.as_slice(),
+        &mut io::sink(),
+        faults,
+        options,
+    )?;
     if status != 0 {
         return Ok(status);
     }
-    let lines = lines.as_slice();
     explore_part_lines(alloc, &search, lines, share, output, faults, options, plan)
 }

@@ -11,8 +11,8 @@ pub returns-then-status-ne0-clause-explores : goal.returns-then-status-ne0-claus
 returns-then-status-ne0-clause-explores g c =
     weaker (g.R.Read.remaining c.args.input) _ _
     (λ given is_text.
-    let opening_is : c.as_slice-opening.result.now ≡ opening_lines_text (script_lines given) =
-    c.as_slice-opening.ensures
+    let opening_is : c.as_slice.result.now ≡ opening_lines_text (script_lines given) =
+    c.as_slice.ensures
     ∙ ap (λ (s : Search). s.opening) c.in_ok-search.ensures
     ∙ ap opening_lines_text (c.as_slice-lines.ensures ∙ c.in_ok-lines.ensures ∙ ap script_lines (c.deref.ensures.value ∙ is_text)) in
     part_stopped c.args.options.now c.args.plan.now c.args.share given c.in_ok-status.status (g.W.Write.contents c.args.output.now)
