@@ -1,5 +1,5 @@
 -- The command line of the program, as `clap` reads it, and what its words ask for.
-use Rattle.std.specs.Prelude.{Bool, List, [], ◌∷◌, map, true, Option, None, Some, codes, unwrap_or, option_and_then, if◌then◌else◌}
+use Rattle.std.specs.Prelude.{Bool, List, [], ◌∷◌, map, true, Option, None, Some, codes, unwrap_or, option_map, option_and_then, if◌then◌else◌}
 use Rattle.std.specs.Str.{bytes_eq}
 use Rattle.clap.specs.Words.{App, Row, Rule, Shape, Text, all_of, first_of, new_app, new_rule, subcommand_of, with_rule, with_subcommand}
 use Rattle.clap.specs.Simple.{on_top}
@@ -95,14 +95,25 @@ decode_line =
     with_rule (with_rule (new_app (codes "decode")) (required_rule (codes "kind")))
     (optional_rule (codes "hex"))
 
--- `explore`, with the options of a drive, and those that say how far it goes and what is looked for
+-- an argument that stands as often as it is wanted
+abbrev pub files_rule : Text → Rule
+files_rule name = record (new_rule name) { value_names = 1; action = Some Append }
+
+-- `explore`, with the options of a drive, those that say how far it goes and what is looked for, and
+-- those that say which part is run, or which parts are joined
 abbrev pub explore_line : App
 explore_line =
     with_rule
     (with_rule
+    (with_rule
+    (with_rule
+    (with_rule
     (with_rule (drive_line (codes "explore")) (option_rule (codes "steps") (codes "4")))
     (option_rule (codes "limit") (codes "100000")))
-    (free_rule (codes "find"))
+    (free_rule (codes "find")))
+    (free_rule (codes "part")))
+    (flag_rule (codes "merge")))
+    (files_rule (codes "files"))
 
 -- `judge`, with the options of a drive, and those that say which freedoms are given, and what is told
 abbrev pub judge_line : App
@@ -148,7 +159,7 @@ pub data Wanted : Type 0 where
   tokens : Text → Naming → Wanted
   decode : Text → Text → Wanted
   hba : Bool → DriveText → List Text → Text → Wanted
-  explore : DriveText → Text → Text → Text → Wanted
+  explore : DriveText → Text → Text → Text → Option Text → Bool → List Text → Wanted
   judge : DriveText → List Text → Bool → Bool → Wanted
 
 -- what a request asks for
@@ -163,6 +174,7 @@ wanted_by (Hba texts) =
     hba texts.explains (drive_text texts.drive) (map (λ s. s.now) texts.ranges.items) texts.vcd.now
 wanted_by (Explore texts) =
     explore (drive_text texts.drive) texts.steps.now texts.limit.now texts.find.now
+    (option_map (λ s. s.now) texts.part) texts.merges (map (λ s. s.now) texts.files.items)
 wanted_by (Judge texts) =
     judge (drive_text texts.drive) (map (λ s. s.now) texts.freedoms.items) texts.strict texts.quiet
 
@@ -205,6 +217,10 @@ repeated_asked name rows =
     else if bytes_eq name (codes "judge")
     then Some (judge (drive_in rows) (texts_in (codes "freedom") rows)
     (has_flag (codes "strict") rows) (has_flag (codes "quiet") rows))
+    else if bytes_eq name (codes "explore")
+    then Some (explore (drive_in rows) (text_of (codes "steps") rows) (text_of (codes "limit") rows)
+    (text_of (codes "find") rows) (first_of (codes "part") rows) (has_flag (codes "merge") rows)
+    (texts_in (codes "files") rows))
     else None
 
 -- what a subcommand with these arguments asks for
@@ -220,9 +236,6 @@ asked_of (name, rows) =
     else if bytes_eq name (codes "decode")
     then Some (decode (text_of (codes "kind") rows) (text_of (codes "hex") rows))
     else if bytes_eq name (codes "draw") then Some (draw (drive_in rows))
-    else if bytes_eq name (codes "explore")
-    then Some (explore (drive_in rows) (text_of (codes "steps") rows) (text_of (codes "limit") rows)
-    (text_of (codes "find") rows))
     else repeated_asked name rows
 
 -- what the words of a command line ask for, where they are one

@@ -1,5 +1,5 @@
 -- How the program ends, by the words of its command line.
-use Rattle.std.specs.Prelude.{◌≡◌, ◌≢◌, ◌≤◌, ◌⊎◌, ℕ, Bool, List, [], ◌∷◌, ◌++◌, Option, None, Some, Ok, Err}
+use Rattle.std.specs.Prelude.{◌≡◌, ◌≢◌, ◌≤◌, ◌⊎◌, ℕ, Bool, true, false, List, [], ◌∷◌, ◌++◌, length, Option, None, Some, Ok, Err, MatchOption}
 use Rattle.std.specs.Io.KnownBytes.{Appends}
 use Rattle.hex.specs.Hex.{decode_of}
 use Rattle.hex.specs.declared.error.FromHexError.{FromHexError}
@@ -8,13 +8,15 @@ use Rattle.port_threads.specs.Loads.{WritesLoad, IsFirstLoadFault}
 use Rattle.port_threads.specs.Works.{Ran}
 use Rattle.port_threads.specs.declared.load.LoadFault.{LoadFault}
 use Rattle.tool.specs.OptionTexts.{DriveText, WritesConfig, IsOfDrive}
-use Rattle.tool.specs.Outcomes.{YieldsBy}
+use Rattle.tool.specs.Outcomes.{Yields, YieldsBy}
 use Rattle.tool.specs.Level0.{level0_text}
 use Rattle.tcg_calls.specs.TokenTexts.{token_text}
 use Rattle.tcg_calls.specs.declared.named_tokens.naming.Naming.{Naming}
 use Rattle.decoded.specs.Decodings.{DecodeEnds}
+use Rattle.runs.specs.Merges.{ExploresPart, merge_of}
 use Rattle.runs.specs.Pictures.{Draws}
 use Rattle.runs.specs.Plans.{WritesPlan, WritesSomePlan}
+use Rattle.runs.specs.Shares.{share_written}
 use Rattle.runs.specs.Tellings.{Explores}
 use Rattle.runs.specs.declared.explored.plan.Plan.{Plan}
 use Rattle.judged.specs.Freedoms.{freedoms_asked}
@@ -49,21 +51,53 @@ DrawEnds texts input status old new =
     × Draws config input status old new)
     ⊎ ((WritesLimitedConfig texts → ⊥) × (status ≡ 2) × (new ≡ old))
 
--- what short lists of the script's lines lead to is printed
-abbrev pub ExploresOn : Config → Text → Text → Text → Option (List ℕ) → ℕ → Option (List ℕ)
+-- what short lists of the script's lines lead to is printed, or the rows of one part of the lists; where
+-- the text writes no part, the status is 2, and nothing is printed
+abbrev pub ExploresShare : Config → Plan → Option Text → Option (List ℕ) → ℕ → Option (List ℕ)
     → Option (List ℕ) → Type 0
-ExploresOn config steps limit find input status old new =
-    ((plan : Plan) × WritesPlan steps limit find plan × Explores config plan input status old new)
+ExploresShare config plan None input status old new = Explores config plan input status old new
+ExploresShare config plan (Some part) input status old new =
+    MatchOption (share_written part) ((status ≡ 2) × (new ≡ old))
+    (λ share. ExploresPart config plan share input status old new)
+
+-- the same by the plan of the options; where they write none, the status is 2, and nothing is printed
+abbrev pub ExploresOn : Config → Text → Text → Text → Option Text → Option (List ℕ) → ℕ
+    → Option (List ℕ) → Option (List ℕ) → Type 0
+ExploresOn config steps limit find part input status old new =
+    ((plan : Plan) × WritesPlan steps limit find plan
+    × ExploresShare config plan part input status old new)
     ⊎ ((WritesSomePlan steps limit → ⊥) × (status ≡ 2) × (new ≡ old))
 
--- the same on the drive of the options; where they open no drive, or write no plan, the status is 2, and nothing is
+-- the same on the drive of the options; where they open no drive, the status is 2, and nothing is
 -- printed
-abbrev pub ExploreEnds : DriveText → Text → Text → Text → Option (List ℕ) → ℕ → Option (List ℕ)
-    → Option (List ℕ) → Type 0
-ExploreEnds texts steps limit find input status old new =
+abbrev pub SearchEnds : DriveText → Text → Text → Text → Option Text → Option (List ℕ) → ℕ
+    → Option (List ℕ) → Option (List ℕ) → Type 0
+SearchEnds texts steps limit find part input status old new =
     ((config : Config) × WritesConfig texts config × IsOfDrive config
-    × ExploresOn config steps limit find input status old new)
+    × ExploresOn config steps limit find part input status old new)
     ⊎ ((WritesLimitedConfig texts → ⊥) × (status ≡ 2) × (new ≡ old))
+
+-- what the files have is joined, a text for each; where one can't be read, the status is 2, and nothing
+-- is printed
+abbrev pub MergeEnds : List Text → ℕ → Option (List ℕ) → Option (List ℕ) → Type 0
+MergeEnds files status old new =
+    ((texts : List (List ℕ)) × (length texts ≡ length files)
+    × Yields (merge_of texts) status old new)
+    ⊎ ((status ≡ 2) × (new ≡ old))
+
+-- parts are joined where the flag says so and files are named, and lists are run where it does not and
+-- none is; else the status is 2, and nothing is printed
+abbrev pub ExploreEnds : DriveText → Text → Text → Text → Option Text → Bool → List Text
+    → Option (List ℕ) → ℕ → Option (List ℕ) → Option (List ℕ) → Type 0
+ExploreEnds texts steps limit find None true (file ∷ files) input status old new =
+    MergeEnds (file ∷ files) status old new
+ExploreEnds texts steps limit find None true [] input status old new = (status ≡ 2) × (new ≡ old)
+ExploreEnds texts steps limit find (Some part) true files input status old new =
+    (status ≡ 2) × (new ≡ old)
+ExploreEnds texts steps limit find part false [] input status old new =
+    SearchEnds texts steps limit find part input status old new
+ExploreEnds texts steps limit find part false (file ∷ files) input status old new =
+    (status ≡ 2) × (new ≡ old)
 
 -- the answers of a transcript are judged, with the freedoms that the words give; where they name another, the status is
 -- 2, and nothing is printed
@@ -150,8 +184,9 @@ Serves remaining contents (Some (decode kind hex)) input status old new =
     DecodeEnds kind hex input status old new
 Serves remaining contents (Some (hba explains texts ranges vcd)) input status old new =
     HbaEnds remaining contents explains texts ranges input status old new
-Serves remaining contents (Some (explore texts steps limit find)) input status old new =
-    ExploreEnds texts steps limit find input status old new
+Serves remaining contents (Some (explore texts steps limit find part merges files)) input status
+    old new =
+    ExploreEnds texts steps limit find part merges files input status old new
 Serves remaining contents (Some (judge texts names strict quiet)) input status old new =
     JudgeEnds texts names strict quiet input status old new
 

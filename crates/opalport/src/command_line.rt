@@ -3,10 +3,11 @@
 ghost use Rattle.std.specs.Prelude.{◌≡◌, IfOk, true, map, option_map, option_and_then, string_bytes, codes};
 ghost use Rattle.clap.specs.Words.{App, FailsBy, app_of, fault_of, first_of, found_of, new_app, rows_of, subcommand_rows_of, with_rule, with_subcommand};
 ghost use Rattle.tool.specs.OptionTexts.{drive_text};
-ghost use Rattle.opalport.specs.CommandLine.{top_line, option_rule, free_rule, required_rule, flag_rule, with_drive_rules, drive_line, drive_in, hba_line, explore_line, judge_line, run_line, has_flag, repeated_rule, texts_in, optional_rule, threads_line, tokens_line, decode_line, opalport_line, text_of, naming_in, wanted_by, repeated_asked, asked_of, asked_by};
+ghost use Rattle.opalport.specs.CommandLine.{top_line, option_rule, free_rule, required_rule, flag_rule, with_drive_rules, drive_line, drive_in, hba_line, explore_line, files_rule, judge_line, run_line, has_flag, repeated_rule, texts_in, optional_rule, threads_line, tokens_line, decode_line, opalport_line, text_of, naming_in, wanted_by, repeated_asked, asked_of, asked_by};
 
 use crate::controller_help::LINES as CONTROLLER_LINES;
 use crate::decode_help::KINDS;
+use crate::explore_help::PARTS;
 use crate::judge_help::TRANSCRIPTS;
 use clap::{Arg, ArgAction, ArgMatches, Command, Error};
 use std::alloc::{AllocError, Global};
@@ -40,7 +41,7 @@ pub struct HbaTexts<'a> {
 }
 
 /// The options of an exploration, as they are written.
-#[derive(Clone, Copy)]
+#[derive(Drop)]
 pub struct ExploreTexts<'a> {
     pub drive: DriveTexts<'a>,
     /// How long a list is at most.
@@ -49,6 +50,12 @@ pub struct ExploreTexts<'a> {
     pub limit: &'a str,
     /// A text that is looked for; empty where failures are.
     pub find: &'a str,
+    /// Which part of the lists is run, where not all are.
+    pub part: Option<&'a str>,
+    /// Whether what parts printed is joined.
+    pub merges: bool,
+    /// The files that have what they printed.
+    pub files: Vec<&'a str>,
 }
 
 /// The options of a judge, as they are written.
@@ -257,6 +264,23 @@ fn with_repeated<'a>(
     command.arg(option)
 }
 
+/// Adds an argument that stands as often as it is wanted.
+fn with_files<'a>(
+    command: Command<'a>,
+    alloc: Global,
+    name: &'static str,
+    help: &'static str,
+) -> Result<Command<'a>, AllocError>
+    ensures { IfOk result (λ c. app_of c
+        ≡ with_rule (app_of command.entry) (files_rule name.now)) }
+{
+    let argument = Arg::new(alloc, name)
+        .value_name("FILE")
+        .action(ArgAction::Append)
+        .help(help);
+    command.arg(argument)
+}
+
 /// Adds the options that say which drive a command opens.
 fn with_drive<'a>(command: Command<'a>, alloc: Global) -> Result<Command<'a>, AllocError>
     ensures { IfOk result (λ c. app_of c ≡ with_drive_rules (app_of command.entry)) }
@@ -378,7 +402,7 @@ fn explore_command<'a>(alloc: Global) -> Result<Command<'a>, AllocError>
     let about = "Runs all short lists of the lines of a script, and tells what they lead to";
     let limit = "How many lists of one length are gone on from, at most";
     let find = "A text of a printed line; without it failures are looked for";
-    let c = drive_command(alloc, "explore", about, "")?;
+    let c = drive_command(alloc, "explore", about, PARTS)?;
     let c = with_option(
         c,
         alloc,
@@ -388,7 +412,16 @@ fn explore_command<'a>(alloc: Global) -> Result<Command<'a>, AllocError>
         "How many lines a list has at most",
     )?;
     let c = with_option(c, alloc, "limit", "N", "100000", limit)?;
-    with_free_option(c, alloc, "find", "TEXT", find)
+    let c = with_free_option(c, alloc, "find", "TEXT", find)?;
+    let c = with_free_option(
+        c,
+        alloc,
+        "part",
+        "K/N",
+        "Runs the Kth of N parts of the lists",
+    )?;
+    let c = with_flag(c, alloc, "merge", "Joins what the N parts printed to FILEs")?;
+    with_files(c, alloc, "files", "What a part printed; in the order of K")
 }
 
 /// The command that judges what another drive answered to a script, with the options that say which drive the model is,
@@ -502,18 +535,36 @@ fn run_texts<'a>(matches: &ArgMatches<'a>) -> RunTexts<'a>
 }
 
 /// The options of an exploration.
-fn explore_texts<'a>(matches: &ArgMatches<'a>) -> ExploreTexts<'a>
-    ensures drive { drive_text result.drive ≡ drive_in (rows_of (found_of matches.now)) }
-    ensures steps { result.steps.now ≡ text_of (codes "steps") (rows_of (found_of matches.now)) }
-    ensures limit { result.limit.now ≡ text_of (codes "limit") (rows_of (found_of matches.now)) }
-    ensures find { result.find.now ≡ text_of (codes "find") (rows_of (found_of matches.now)) }
+fn explore_texts<'a>(
+    alloc: Global,
+    matches: &ArgMatches<'a>,
+) -> Result<ExploreTexts<'a>, AllocError>
+    ensures drive { IfOk result (λ texts. drive_text texts.drive
+        ≡ drive_in (rows_of (found_of matches.now))) }
+    ensures steps { IfOk result (λ texts. texts.steps.now
+        ≡ text_of (codes "steps") (rows_of (found_of matches.now))) }
+    ensures limit { IfOk result (λ texts. texts.limit.now
+        ≡ text_of (codes "limit") (rows_of (found_of matches.now))) }
+    ensures find { IfOk result (λ texts. texts.find.now
+        ≡ text_of (codes "find") (rows_of (found_of matches.now))) }
+    ensures part { IfOk result (λ texts. option_map (λ s. s.now) texts.part
+        ≡ first_of (codes "part") (rows_of (found_of matches.now))) }
+    ensures merges { IfOk result (λ texts. texts.merges
+        ≡ has_flag (codes "merge") (rows_of (found_of matches.now))) }
+    ensures files { IfOk result (λ texts. map (λ s. s.now) texts.files.items
+        ≡ texts_in (codes "files") (rows_of (found_of matches.now))) }
 {
-    ExploreTexts {
-        drive: drive_texts(matches),
+    let files = texts_in(alloc, matches, "files")?;
+    let drive = drive_texts(matches);
+    Ok(ExploreTexts {
+        drive,
         steps: text_of(matches, "steps"),
         limit: text_of(matches, "limit"),
         find: text_of(matches, "find"),
-    }
+        part: free_text_of(matches, "part"),
+        merges: has_flag(matches, "merge"),
+        files,
+    })
 }
 
 /// The options that say how many clients make how many rounds.
@@ -623,6 +674,10 @@ fn repeated_request<'a>(
             let texts = judge_texts(alloc, matches)?;
             Ok(Some(Request::Judge(texts)))
         }
+        "explore" => {
+            let texts = explore_texts(alloc, matches)?;
+            Ok(Some(Request::Explore(texts)))
+        }
         _ => Ok(None),
     }
 }
@@ -645,7 +700,6 @@ fn request_in<'a>(
         "tokens" => Ok(Some(Request::Tokens(token_texts(matches)))),
         "decode" => Ok(Some(Request::Decode(decode_texts(matches)))),
         "draw" => Ok(Some(Request::Draw(drive_texts(matches)))),
-        "explore" => Ok(Some(Request::Explore(explore_texts(matches)))),
         _ => repeated_request(alloc, name, matches),
     }
 }

@@ -6,6 +6,8 @@ mod controller;
 mod controller_help;
 mod decode_help;
 mod error;
+mod exploration;
+mod explore_help;
 mod judge_help;
 mod program;
 

@@ -4,18 +4,16 @@ ghost use Rattle.std.specs.Prelude.{◌≡◌, ◌≢◌, ◌≤◌, IfOk, Match
 ghost use Rattle.clap.specs.Words.{kind_of};
 ghost use Rattle.tool.specs.OptionTexts.{IsOfDrive, WritesConfig, drive_text};
 ghost use Rattle.tool.specs.Outcomes.{YieldsBy};
-ghost use Rattle.opalport.specs.Program.{WritesLimitedConfig, EndsByWords, DrawEnds, ExploreEnds, ExploresOn, JudgeEnds, JudgesOn, RunEnds, Level0Ends, ThreadsEnd, TokensEnd, Ends};
+ghost use Rattle.opalport.specs.Program.{WritesLimitedConfig, EndsByWords, DrawEnds, JudgeEnds, JudgesOn, RunEnds, Level0Ends, ThreadsEnd, TokensEnd, Ends};
 
-use crate::command_line::{
-    ExploreTexts, JudgeTexts, LoadTexts, Request, RunTexts, TokenTexts, request_of,
-};
+use crate::command_line::{JudgeTexts, LoadTexts, Request, RunTexts, TokenTexts, request_of};
 use crate::controller::serve_controller;
 use crate::error::ProgramError;
+use crate::exploration::explore;
 use clap::error::ErrorKind;
 use decoded::run_decode;
 use judged::{FreedomFault, Freedoms, Terms, judge_transcript};
 use port_threads::{Load, LoadError, run_load};
-use runs::explored::{Plan, PlanFault, explore_script};
 use runs::recorded::{RecordError, draw_script, run_script_with_dump};
 use std::alloc::Global;
 use std::fs;
@@ -76,7 +74,7 @@ fn run_on<F: Files, R: Read + Drop, W: Write, E: Write>(
 /// # Errors
 ///
 /// An allocation was refused, or the writer failed.
-fn options_in<E: Write>(
+pub(crate) fn options_in<E: Write>(
     alloc: Global,
     texts: &DriveTexts<'_>,
     faults: &mut E,
@@ -130,50 +128,6 @@ fn draw<R: Read + Drop, W: Write, E: Write>(
         return Ok(2);
     };
     draw_script(alloc, input, output, faults, &options)
-}
-
-/// Runs all short lists of the lines of a script on a drive, as far as the options say, and gives the status.
-fn explore_on<R: Read + Drop, W: Write, E: Write>(
-    alloc: Global,
-    options: &Options,
-    texts: &ExploreTexts<'_>,
-    input: R,
-    output: &mut W,
-    faults: &mut E,
-) -> Result<u8, RunError>
-    ensures most { IfOk result (λ status. status ≤ 2) }
-    ensures ends { IfOk result (λ status. ExploresOn options.now texts.now.steps.now
-        texts.now.limit.now texts.now.find.now (R.remaining input) status
-        (W.contents output.old) (W.contents output.new)) }
-{
-    let find = texts.find.as_bytes();
-    match Plan::parse(alloc, texts.steps.as_bytes(), texts.limit.as_bytes(), find) {
-        Ok(plan) => explore_script(alloc, input, output, faults, options, &plan),
-        Err(PlanFault::OutOfMemory) => Err(RunError::Memory),
-        Err(fault) => {
-            writeln!(faults, "error: {fault}").map_err(|_| RunError::Write)?;
-            Ok(2)
-        }
-    }
-}
-
-/// Runs all short lists of the lines of a script on the drive that the options open, and gives the status.
-fn explore<R: Read + Drop, W: Write, E: Write>(
-    alloc: Global,
-    texts: &ExploreTexts<'_>,
-    input: R,
-    output: &mut W,
-    faults: &mut E,
-) -> Result<u8, RunError>
-    ensures most { IfOk result (λ status. status ≤ 2) }
-    ensures ends { IfOk result (λ status. ExploreEnds (drive_text texts.now.drive)
-        texts.now.steps.now texts.now.limit.now texts.now.find.now (R.remaining input) status
-        (W.contents output.old) (W.contents output.new)) }
-{
-    let Some(options) = options_in(alloc, &texts.drive, faults)? else {
-        return Ok(2);
-    };
-    explore_on(alloc, &options, texts, input, output, faults)
 }
 
 /// Judges what another drive answered to a script, with the freedoms of these names, and gives the status.
@@ -345,7 +299,10 @@ pub fn ends<T: Threads + Wait + Sync + Files, R: Read + Drop, W: Write, E: Write
         Ok(Some(Request::Hba(texts))) => {
             serve_controller(rt, alloc, &texts, input, output, faults)
         }
-        Ok(Some(Request::Explore(texts))) => Ok(explore(alloc, &texts, input, output, faults)?),
+        Ok(Some(Request::Explore(texts))) => {
+            let status = explore(rt, alloc, &texts, input, output, faults)?;
+            Ok(status)
+        }
         Ok(Some(Request::Judge(texts))) => Ok(judge(alloc, &texts, input, output, faults)?),
         Ok(None) => Ok(2),
         Err(error) => Ok(tell(&error, output, faults)?),

@@ -2,3 +2,12 @@ mod FirstLines
 mod SeenKinds
 mod FoundTexts
 mod Stopped
+mod CountedKinds
+mod PartSteps
+mod ReadRows
+mod JoinedKinds
+mod PartLists
+mod PartFronts
+mod SegmentRows
+mod RowTexts
+mod PartTexts

@@ -2,6 +2,9 @@ pub mod Alphabets
 pub mod Answers
 pub mod Findings
 pub mod Lists
+pub mod Merges
+pub mod Rows
+pub mod Shares
 pub mod Tellings
 pub mod Plans
 pub mod Frames

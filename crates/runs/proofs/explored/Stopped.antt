@@ -6,8 +6,10 @@ use Rattle.sp_cells.specs.Config.{Config}
 use Rattle.tool.specs.Outcomes.{RunOutcome, Yields, ends, run_outcome_of}
 use Rattle.tool.specs.Scripts.{script_lines}
 use Rattle.runs.specs.Alphabets.{opening_lines_text}
+use Rattle.runs.specs.Merges.{part_outcome_of, part_behind, part_of_lines}
 use Rattle.runs.specs.Tellings.{exploration_of, explored_behind, explored_lines}
 use Rattle.runs.specs.declared.explored.plan.Plan.{Plan}
+use Rattle.runs.specs.declared.explored.share.Share.{Share}
 
 appends_nothing : (before : Option (List ℕ)) → Appends before before []
 appends_nothing None = tt
@@ -29,3 +31,11 @@ pub stopped : (config : Config) (plan : Plan) (text : List ℕ) (status : ℕ) (
 stopped config plan text status before is differs =
     subst (λ s. Yields (explored_behind config plan (script_lines text) s) status before before) (sym is)
     (ends_with (explored_lines config plan (script_lines text)) status before (status == 0) (failed status differs))
+
+-- the same of a part
+pub part_stopped : (config : Config) (plan : Plan) (share : Share) (text : List ℕ) (status : ℕ) (before : Option (List ℕ))
+    → (run_outcome_of config (opening_lines_text (script_lines text))).status ≡ status → (status ≡ 0 → ⊥)
+    → Yields (part_outcome_of config plan share text) status before before
+part_stopped config plan share text status before is differs =
+    subst (λ s. Yields (part_behind config plan share (script_lines text) s) status before before) (sym is)
+    (ends_with (part_of_lines config plan share (script_lines text)) status before (status == 0) (failed status differs))

@@ -36,7 +36,7 @@ pub(crate) fn opening_size(lines: &[Bytes]) -> usize
 }
 
 /// Lines as text.
-fn text_of_lines(alloc: Global, lines: &[Bytes]) -> Result<Bytes, AllocError>
+pub(crate) fn text_of_lines(alloc: Global, lines: &[Bytes]) -> Result<Bytes, AllocError>
     ensures { IfOk result (λ text. text ≡ text_of_lines lines.now) }
 {
     let mut text = Vec::new(alloc);

@@ -4,6 +4,7 @@ ghost use Rattle.std.specs.Prelude.{◌≡◌, ◌++◌, [], not, OnOk};
 ghost use Rattle.std.specs.Str.{bytes_eq};
 ghost use Rattle.std.specs.List.{prefix_len};
 ghost use Rattle.tool.specs.Scripts.{script_lines};
+ghost use Rattle.runs.specs.Merges.{with_counted};
 ghost use Rattle.runs.specs.Findings.{kind_text, is_failure_word, stands_in, is_wanted, with_kind, with_printed, noting_try};
 
 use crate::explored::lines::Lines;
@@ -129,6 +130,19 @@ impl Kinds {
             times: 1,
             list,
         })?;
+        Ok(())
+    }
+
+    /// One that a part has found.
+    pub fn add_counted(&mut self, kind: Kind) -> Result<(), AllocError>
+        ensures { OnOk result (self.new ≡ with_counted self.old kind) }
+    {
+        let place = place_of(&self.items, kind.text.as_slice());
+        if place < self.items.len() {
+            self.items[place].times = self.items[place].times.wrapping_add(kind.times);
+            return Ok(());
+        }
+        self.items.push(kind)?;
         Ok(())
     }
 

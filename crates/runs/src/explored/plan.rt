@@ -9,7 +9,7 @@ use std::alloc::{AllocError, Global};
 use thiserror::Error;
 
 /// How many letters a list has at most.
-const MOST_STEPS: u64 = 1000;
+pub(crate) const MOST_STEPS: u64 = 1000;
 
 /// How many lists of one length are gone on from at most.
 const MOST_LISTS: u64 = 10_000_000;

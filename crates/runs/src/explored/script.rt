@@ -153,7 +153,11 @@ fn are_letters<E: Write>(lines: &[Bytes], faults: &mut E) -> Result<bool, RunErr
 }
 
 /// Whether there is something to explore; tells why, where there is not.
-fn is_fit<E: Write>(letters: &Lines, lines: &[Bytes], faults: &mut E) -> Result<bool, RunError>
+pub(crate) fn is_fit<E: Write>(
+    letters: &Lines,
+    lines: &[Bytes],
+    faults: &mut E,
+) -> Result<bool, RunError>
     requires { letters.now ≡ letters_of lines.now }
     ensures { IfOk result (λ fit. fit ≡ not (is_unfit lines.now)) }
 {
@@ -169,7 +173,7 @@ fn is_fit<E: Write>(letters: &Lines, lines: &[Bytes], faults: &mut E) -> Result<
 }
 
 /// What is explored, by a plan and the lines of a script.
-fn search_by(alloc: Global, plan: &Plan, lines: &[Bytes]) -> Result<Search, AllocError>
+pub(crate) fn search_by(alloc: Global, plan: &Plan, lines: &[Bytes]) -> Result<Search, AllocError>
     ensures { IfOk result (λ search. search ≡ search_by plan.now lines.now) }
 {
     Ok(Search {
@@ -181,7 +185,7 @@ fn search_by(alloc: Global, plan: &Plan, lines: &[Bytes]) -> Result<Search, Allo
 }
 
 /// Tells what was found, and gives the status: 1 where a text was looked for and not found.
-fn tell_findings<W: Write>(
+pub(crate) fn tell_findings<W: Write>(
     alloc: Global,
     find: &[u8],
     findings: &Findings,

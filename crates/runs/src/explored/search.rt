@@ -31,9 +31,9 @@ pub struct Search {
 
 /// How far a search has come: what was found, and the lists that are gone on from next.
 #[derive(Drop)]
-struct Found {
-    findings: Findings,
-    next: Lines,
+pub(crate) struct Found {
+    pub findings: Findings,
+    pub next: Lines,
 }
 
 /// The lists that are gone on from, with those of these that are.
@@ -76,7 +76,7 @@ impl Search {
     }
 
     /// Puts each letter behind each of these lists, and tells now and then how many are done.
-    fn try_lists<E: Write>(
+    pub(crate) fn try_lists<E: Write>(
         &self,
         alloc: Global,
         options: &Options,

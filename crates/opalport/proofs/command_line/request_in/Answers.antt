@@ -38,9 +38,3 @@ returns-in-draw c =
     let entered : subcommand_rows_of c.args.matches.now ≡ Some (c.in-Some.name.now, rows_of (found_of c.in-Some.matches.now)) =
     entered_as _ _ _ _ _ c.in-Some.ensures.name c.in-Some.ensures.rows in
     rw (entered, c.in-draw.is) (cc)
-
-pub returns-in-explore : goal.returns-in-explore
-returns-in-explore c =
-    let entered : subcommand_rows_of c.args.matches.now ≡ Some (c.in-Some.name.now, rows_of (found_of c.in-Some.matches.now)) =
-    entered_as _ _ _ _ _ c.in-Some.ensures.name c.in-Some.ensures.rows in
-    rw (entered, c.in-explore.is) (cc)
