@@ -1,6 +1,6 @@
 -- How wide addresses are, and their upper halves, operation by operation.
-use Rattle.std.proofs.Common.{◌≡◌, ℕ, Bool, true, false, List, [], ◌∷◌, Option, Some, None, refl, ap, sym, subst, ◌∙◌}
-use Rattle.std.specs.Prelude.{◌+◌, ◌-◌, ◌==◌, ◌&&◌, not, nat_le, bit_and, if◌then◌else◌}
+use Rattle.std.proofs.Common.{◌≡◌, ℕ, Bool, true, false, List, [], ◌∷◌, Option, Some, None, refl, ap, ◌∙◌}
+use Rattle.std.specs.Prelude.{◌-◌, ◌==◌, ◌&&◌, not, nat_le, bit_and, if◌then◌else◌}
 use Rattle.fis.specs.declared.any.Fis.{Fis}
 use Rattle.hba_regs.specs.declared.register.Register.{Register}
 use Rattle.hba_regs.specs.declared.register.Register.TheVariants as at
@@ -11,7 +11,7 @@ use Rattle.host_memory.specs.declared.width.AddressWidth.TheVariants as widths
 use Rattle.host_memory.specs.declared.hba_memory.miss.Miss.{Miss}
 use Rattle.host_memory.specs.declared.hba_memory.miss.Miss.TheVariants as misses
 use Rattle.hba.specs.declared.registers.Registers.{Registers}
-use Rattle.hba.specs.Registers.{port_at, reset_bit, override_bit, control_bits, capabilities, upper_written, kept, optioned, overridden, stopped_if, lost_if, found_if, goes_down, comes_up, port_written, written_at}
+use Rattle.hba.specs.Registers.{port_at, reset_bit, override_bit, control_bits, capabilities, upper_written, kept, optioned, overridden, stopped_if, lost_if, found_if, goes_down, comes_up, port_written}
 use Rattle.hba.specs.Showing.{served, moved, fetching}
 use Rattle.hba.specs.History.{Opened, Operation, Wrote, Powered, Signed, Missed, Controlled, Asserted, Restarted, Unheard, Fetched, Completed, account, regs_of, effect_after}
 use Rattle.hba.specs.TaskLaws.{left_at, left_by}
