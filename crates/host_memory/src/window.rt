@@ -7,6 +7,7 @@ ghost use Rattle.host_memory.specs.Window.{is_held, bytes_held_at, bytes_laid};
 use crate::host::{HostMemory, Source};
 
 /// Bytes of the host's memory, from a base address on. Those that stand past the last address are never reached.
+#[repr(C)]
 #[derive(Drop)]
 pub struct Window<'a> {
     pub base: u64,
@@ -83,7 +84,7 @@ pub fn copy_to(base: u64, bytes: &mut [u8], at: u64, others: &[u8]) -> bool
 impl<'a> Window<'a> {
     ghost use Rattle.std.specs.Prelude.{◌≡◌, ◌≤◌, ◌+◌, length};
     ghost use Rattle.host_memory.specs.Access.{read_answer, memory_end};
-    ghost use Rattle.host_memory.specs.Window.{bytes_held_at};
+    ghost use Rattle.host_memory.specs.Window.{is_held, bytes_held_at};
 
     /// Bytes that stand at a base address.
     pub fn new(base: u64, bytes: &'a mut [u8]) -> Window<'a>
@@ -94,7 +95,15 @@ impl<'a> Window<'a> {
         Window { base, bytes }
     }
 
-    fn fill(&self, at: u64, into: &mut [u8]) -> bool
+    /// Whether the window has so many bytes at an address.
+    pub(crate) fn has(&self, at: u64, len: usize) -> bool
+        requires { at + len ≤ memory_end }
+        ensures { result ≡ is_held self.now.base self.now.bytes.now at len }
+    {
+        is_held(self.base, self.bytes, at, len)
+    }
+
+    pub(crate) fn fill(&self, at: u64, into: &mut [u8]) -> bool
         requires { at + length into.old ≤ memory_end }
         ensures { read_answer result into.new
             ≡ bytes_held_at self.now.base self.now.bytes.now at (length into.old) }
