@@ -105,6 +105,9 @@ static void saves(void)
     is("a read of its registers", opal_hba_read(&loaded, 0).code, OPAL_DONE);
     is("its save", opal_save(&loaded, text, told.number).code, OPAL_DONE);
     is("its free", opal_free(&loaded), OPAL_DONE);
+    is("a load of a controller with 64-bit addresses", opal_hba_load_wide(&loaded, text, told.number), OPAL_DONE);
+    is("its word of them", (opal_code)(opal_hba_read(&loaded, 0).number >> 31), 1);
+    is("its free", opal_free(&loaded), OPAL_DONE);
     is("the free of what was saved", opal_free(&drive), OPAL_DONE);
     is("a save of what was freed", opal_save(&drive, text, sizeof text).code, OPAL_NO_HANDLE);
 }

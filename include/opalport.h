@@ -196,16 +196,17 @@ typedef struct opal_config {
     uint8_t has_datastore;   /* whether (0 is not) the next field says the size of DataStore; else it has 4,096 bytes, with opal 10,485,760 */
     uint64_t datastore;      /* at most 16,777,216 bytes; 0 is a DataStore of no byte. With opal at least 10,485,760 */
     uint64_t seed;           /* of the random bytes: any number; 0 unless the profile is opal */
+    uint8_t wide_addresses;  /* of a controller whether (0 is not) CAP.S64A is 1: its addresses have 64 bits, and else are below 4 GiB */
 } opal_config;
 
 /* A drive of the profile base with 1,000 sectors, of which 8 can be shadowed, and the MSID "OPALMSID". */
 #define OPAL_CONFIG_INIT \
-    { sizeof(opal_config), 1000, 8, "OPALMSID", 8, NULL, 0, OPAL_BASE, NULL, 0, NULL, 0, NULL, 0, 0, 0, 0 }
+    { sizeof(opal_config), 1000, 8, "OPALMSID", 8, NULL, 0, OPAL_BASE, NULL, 0, NULL, 0, NULL, 0, 0, 0, 0, 0 }
 
 /* A drive of the profile opal with 524,288 sectors, of which 262,144 can be shadowed, a DataStore of 10,485,760 bytes, the
    MSID "OPALMSID", and the seed 0. What nothing has written takes no memory. */
 #define OPAL_CONFIG_INIT_OPAL \
-    { sizeof(opal_config), 524288, 262144, "OPALMSID", 8, NULL, 0, OPAL_OPAL, NULL, 0, NULL, 0, NULL, 0, 0, 0, 0 }
+    { sizeof(opal_config), 524288, 262144, "OPALMSID", 8, NULL, 0, OPAL_OPAL, NULL, 0, NULL, 0, NULL, 0, 0, 0, 0, 0 }
 
 /* What a handle has, where code is OPAL_DONE. */
 typedef struct opal_about {
@@ -409,6 +410,7 @@ typedef struct opal_raw_size {
     uint64_t datastore; /* UINT64_MAX stands for the size that a drive has where none is asked for */
     uint64_t seed;
     uint32_t profile;
+    bool wide;
 } opal_raw_size;
 
 uint32_t opal_raw_version(void);
@@ -423,7 +425,7 @@ opal_code opal_raw_drive_new(opal_raw_object *object, opal_raw_size size, const 
 opal_code opal_raw_clone(opal_raw_object *object, opal_raw_object *from);
 opal_count opal_raw_save(opal_raw_object *object, uint8_t *into, size_t length);
 opal_code opal_raw_drive_load(opal_raw_object *object, const uint8_t *saved, size_t length);
-opal_code opal_raw_hba_load(opal_raw_object *object, const uint8_t *saved, size_t length);
+opal_code opal_raw_hba_load(opal_raw_object *object, const uint8_t *saved, size_t length, bool wide);
 opal_code opal_raw_free(opal_raw_object *object);
 opal_answer opal_raw_drive_accept(opal_raw_object *object, const uint8_t *fis, size_t fis_length, const uint8_t *payload,
                                   size_t payload_length);
@@ -465,8 +467,8 @@ opal_count opal_raw_hba_read(opal_raw_object *object, uint32_t offset);
 opal_code opal_raw_hba_write(opal_raw_object *object, uint32_t offset, uint32_t value);
 opal_count opal_raw_hba_interrupt(opal_raw_object *object);
 opal_code opal_raw_hba_power_cycle(opal_raw_object *object);
-opal_worked opal_raw_hba_turn(opal_raw_object *object, size_t choice, uint32_t base, uint8_t *memory, size_t length);
-opal_worked opal_raw_hba_turn_within(opal_raw_object *object, size_t choice, uint32_t base, uint8_t *memory, size_t length,
+opal_worked opal_raw_hba_turn(opal_raw_object *object, size_t choice, uint64_t base, uint8_t *memory, size_t length);
+opal_worked opal_raw_hba_turn_within(opal_raw_object *object, size_t choice, uint64_t base, uint8_t *memory, size_t length,
                                      const opal_region *regions, size_t region_count);
 opal_count opal_raw_hba_denial(opal_raw_object *object, uint8_t *into, size_t length);
 opal_denied opal_raw_hba_denied(opal_raw_object *object);
@@ -621,7 +623,8 @@ static inline opal_code opal_raw_new(opal_raw_make *make, opal_handle *handle, c
         fault = opal_raw_asked(config);
     if (fault != OPAL_DONE)
         return fault;
-    opal_raw_size size = { config->sectors, config->shadow, UINT64_MAX, config->seed, config->profile };
+    opal_raw_size size = { config->sectors, config->shadow, UINT64_MAX, config->seed, config->profile,
+                           config->wide_addresses != 0 };
     if (config->has_datastore != 0) /* the largest number stands for none that is asked for, and no drive has the one below it */
         size.datastore = config->datastore == UINT64_MAX ? UINT64_MAX - 1 : config->datastore;
     opal_raw_call call = { { 0, NULL }, OPAL_NONE };
@@ -735,15 +738,26 @@ OPAL_MUST_USE static inline opal_code opal_drive_load(opal_handle *drive, const 
     return opal_raw_made(&call, drive, opal_raw_drive_load(&call.object, opal_raw_at(saved), length));
 }
 
-/* Makes a controller over the drive that was saved as these bytes, at a handle with nothing. Its registers are as after its reset,
-   and it counts the acts of its drive from then on. Refused: as opal_drive_load. */
-OPAL_MUST_USE static inline opal_code opal_hba_load(opal_handle *hba, const void *saved, size_t length)
+static inline opal_code opal_raw_hba_loaded(opal_handle *hba, const void *saved, size_t length, bool wide)
 {
     opal_code fault = opal_raw_unloadable(hba, saved, length);
     if (fault != OPAL_DONE)
         return fault;
     opal_raw_call call = { { 0, NULL }, OPAL_NONE };
-    return opal_raw_made(&call, hba, opal_raw_hba_load(&call.object, opal_raw_at(saved), length));
+    return opal_raw_made(&call, hba, opal_raw_hba_load(&call.object, opal_raw_at(saved), length, wide));
+}
+
+/* Makes a controller over the drive that was saved as these bytes, at a handle with nothing. Its registers are as after its reset,
+   its addresses are below 4 GiB, and it counts the acts of its drive from then on. Refused: as opal_drive_load. */
+OPAL_MUST_USE static inline opal_code opal_hba_load(opal_handle *hba, const void *saved, size_t length)
+{
+    return opal_raw_hba_loaded(hba, saved, length, false);
+}
+
+/* The same, but CAP.S64A is 1: the controller's addresses have 64 bits. */
+OPAL_MUST_USE static inline opal_code opal_hba_load_wide(opal_handle *hba, const void *saved, size_t length)
+{
+    return opal_raw_hba_loaded(hba, saved, length, true);
 }
 
 /* What a handle has: its kind, and of the drive the profile and the sectors. Refused: OPAL_NULL, OPAL_MISALIGNED,
@@ -1174,7 +1188,7 @@ OPAL_MUST_USE static inline opal_count opal_port_denials(const opal_handle *port
 }
 
 /* Makes a controller over the drive that is asked for, at a handle with nothing: an AHCI host bus adapter with one port, as
-   it is after its reset. Refused as opal_drive_new. */
+   it is after its reset, with CAP.S64A as wide_addresses says. Refused as opal_drive_new. */
 OPAL_MUST_USE static inline opal_code opal_hba_new(opal_handle *hba, const opal_config *config)
 {
     return opal_raw_new(opal_raw_hba_new, hba, config);
@@ -1235,9 +1249,9 @@ static inline opal_code opal_hba_power_cycle(opal_handle *hba)
 
 /* The controller does a work of those that are ready, the one of the number `choice`, modulo how many they are: the
    signature of the device, fetches, completions, the least tag first. The host's memory is `memory`, from the address `base`
-   on; there is no other. It is read and written in this call alone. Refused: OPAL_OUT_OF_MEMORY; the memory is then as it
-   was. */
-OPAL_MUST_USE static inline opal_worked opal_hba_turn(opal_handle *hba, size_t choice, uint32_t base, void *memory,
+   on; there is no other. What of it lies past 4 GiB is reached where CAP.S64A is 1. It is read and written in this call alone.
+   Refused: OPAL_OUT_OF_MEMORY; the memory is then as it was. */
+OPAL_MUST_USE static inline opal_worked opal_hba_turn(opal_handle *hba, size_t choice, uint64_t base, void *memory,
                                                       size_t length)
 {
     opal_raw_call call;
@@ -1253,7 +1267,7 @@ OPAL_MUST_USE static inline opal_worked opal_hba_turn(opal_handle *hba, size_t c
    holes, mapped at their places in one window. An access is answered where all its bytes lie in one region, so regions that
    touch are to be told as one; any other access finds no memory, as one outside the window. Without a region there is none.
    Refused also: OPAL_NULL, OPAL_MISALIGNED and OPAL_LENGTH of the regions, OPAL_SHARED where they stand in the memory. */
-OPAL_MUST_USE static inline opal_worked opal_hba_turn_within(opal_handle *hba, size_t choice, uint32_t base, void *memory,
+OPAL_MUST_USE static inline opal_worked opal_hba_turn_within(opal_handle *hba, size_t choice, uint64_t base, void *memory,
                                                              size_t length, const opal_region *regions, size_t region_count)
 {
     opal_raw_call call;

@@ -534,6 +534,32 @@ class OnAController(unittest.TestCase):
             self.hba.turn(self.memory, self.BASE, regions=[(0, 2**64)])
         self.assertEqual(it.exception.code, Code.NUMBER)
 
+    def test_memory_past_4_gib_is_reached_with_64_bit_addresses(self):
+        """AHCI 1.3.1, 3.1.1, 3.3.2, 3.3.4, 4.2.2 and 4.2.3.3: the list, received FISes, the table and the block past 12 GiB."""
+        above = 3 << 32 | self.BASE
+        for is_wide, cap, upper, went in ((True, 0xc1249f00, 3, Went.SERVED), (False, 0x41249f00, 0, Went.NO_LIST)):
+            with self.subTest(is_wide=is_wide), Hba(wide_addresses=is_wide) as self.hba:
+                for offset in (self.PxCLB + 4, self.PxFB + 4):
+                    self.hba.write(offset, 3)
+                    self.assertEqual(self.hba.read(offset), upper)
+                self.assertEqual(self.hba.read(0), cap)
+                for offset, value in ((self.PxCLB, self.BASE), (self.PxFB, self.BASE + 0x1000), (self.PxCMD, 0x11)):
+                    self.hba.write(offset, value)
+                self.assertEqual(self.hba.turn(self.memory, above).work, Work.SIGNATURE)
+                self.memory[0x3000:0x3200] = b"\xff" * SECTOR
+                self.put(0, 5 | 1 << 16, 0, self.BASE + 0x2000, 3)
+                self.memory[0x2000:0x2014] = read(0)
+                self.put(0x2080, self.BASE + 0x3000, 3, 0, 511)
+                self.hba.write(self.PxCI, 1)
+                self.assertEqual(self.hba.turn(self.memory, above), Worked(Work.FETCH, 0, went, False))
+                self.assertEqual(self.memory[0x3000:0x3200], bytes(SECTOR) if is_wide else b"\xff" * SECTOR)
+                saved = self.hba.save()
+                for loads_wide, told in ((True, 0xc1249f00), (False, 0x41249f00)):
+                    with Hba.load(saved, wide_addresses=loads_wide) as loaded:
+                        self.assertEqual(loaded.read(0), told)
+        self.hba = Hba()
+        self.addCleanup(self.hba.close)
+
     def test_a_controller_over_a_drive_that_was_saved(self):
         self.start()
         self.read(0)

@@ -36,6 +36,7 @@ static const char usage[] =
     "  --interrupts HOW   where INTA goes: pc (the I/O APIC of -machine pc), q35, 8259 (that of pc), kvm (pc)\n"
     "  --hold MS          queued commands are completed out of order, one each MS milliseconds that the guest\n"
     "                     is silent\n"
+    "  --s64a             the controller has 64-bit addresses (CAP.S64A), and reaches memory up to 64 GiB\n"
     "  --explain          behind what denied a command, what would lift it\n"
     "  --any-version      goes on with a QEMU other than " QEMU_VERSION "\n"
     "  --verbose          each access of a register, each section of memory\n"
@@ -181,7 +182,7 @@ static _Noreturn void version(void)
 }
 
 enum option_name { SECTORS = 256, PROFILE, SHADOW, RANGE, MSID, PSID, SERIAL, MODEL, /* of the drive, and of the bridge: */
-                   IMAGE, SAVE_IMAGE, SAVE, LOAD, INTERRUPTS, HOLD, EXPLAIN, ANY, VERBOSE, VERSION, HELP };
+                   IMAGE, SAVE_IMAGE, SAVE, LOAD, INTERRUPTS, HOLD, S64A, EXPLAIN, ANY, VERBOSE, VERSION, HELP };
 
 static const struct option options[] = {
     { "image", required_argument, NULL, IMAGE },     { "save", required_argument, NULL, SAVE },
@@ -191,6 +192,7 @@ static const struct option options[] = {
     { "msid", required_argument, NULL, MSID },       { "psid", required_argument, NULL, PSID },
     { "serial", required_argument, NULL, SERIAL },   { "model", required_argument, NULL, MODEL },
     { "hold", required_argument, NULL, HOLD },       { "interrupts", required_argument, NULL, INTERRUPTS },
+    { "s64a", no_argument, NULL, S64A },
     { "explain", no_argument, NULL, EXPLAIN },       { "any-version", no_argument, NULL, ANY },
     { "verbose", no_argument, NULL, VERBOSE },       { "version", no_argument, NULL, VERSION },
     { "help", no_argument, NULL, HELP },             { NULL, 0, NULL, 0 },
@@ -222,6 +224,7 @@ static void takes(int option, const char *value)
     case LOAD: asked.load = value; break;
     case INTERRUPTS: asked.line = line_by(value); break;
     case HOLD: asked.hold = milliseconds_of(value); break;
+    case S64A: asked.drive.wide_addresses = 1; memory_widen(); break;
     case EXPLAIN: asked.explains = true; break;
     case ANY: asked.any_version = true; break;
     case VERBOSE: is_verbose = true; break;

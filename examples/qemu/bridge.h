@@ -15,8 +15,13 @@ _Noreturn void stop(const char *form, ...) __attribute__((format(printf, 1, 2)))
 void tell(const char *form, ...) __attribute__((format(printf, 1, 2)));
 void whisper(const char *form, ...) __attribute__((format(printf, 1, 2)));
 
-/* memory.c: the guest's memory below 4 GiB, in a window that begins at its address 0. */
-#define WINDOW_END 0xffff0000u /* a PC has its firmware from here on, and no memory */
+/* memory.c: the guest's memory below 4 GiB, and with 64-bit addresses that above it, in a window that begins at its address 0. */
+#define WINDOW_END 0xffff0000u /* a PC has its firmware from here on up to 4 GiB, and no memory */
+#define FOUR_GIB (1ull << 32)
+#define WIDE_END (1ull << 36)  /* 64 GiB */
+void memory_widen(void);       /* the controller has 64-bit addresses; before memory_none */
+bool memory_is_wide(void);
+uint64_t memory_end(void);     /* of the window */
 void memory_none(void);
 void memory_add(uint64_t address, uint64_t size, int fd, int64_t offset);
 void memory_own(uint32_t address, uint32_t size); /* memory of the bridge, of zeros */

@@ -25,7 +25,7 @@ void controller_make(const opal_config *config, bool explains)
 void controller_load(const void *saved, size_t length, bool explains)
 {
     is_explained = explains;
-    must(opal_hba_load(&hba, saved, length), "no drive");
+    must(memory_is_wide() ? opal_hba_load_wide(&hba, saved, length) : opal_hba_load(&hba, saved, length), "no drive");
 }
 
 uint8_t *controller_saved(size_t *length)
@@ -111,7 +111,7 @@ static bool works(size_t which)
 {
     size_t count;
     const opal_region *regions = memory_regions(&count);
-    opal_worked worked = opal_hba_turn_within(&hba, which, 0, memory_at(0), WINDOW_END, regions, count);
+    opal_worked worked = opal_hba_turn_within(&hba, which, 0, memory_at(0), memory_end(), regions, count);
     must(worked.code, "a turn");
     if (worked.denied)
         tell_denial();

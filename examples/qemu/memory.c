@@ -10,6 +10,7 @@
 enum { MOST_SECTIONS = 8 };
 
 static uint8_t *window;
+static uint64_t window_end = WINDOW_END;
 static opal_region regions[MOST_SECTIONS];
 static size_t count;
 
@@ -26,7 +27,7 @@ static void place(uint64_t address, uint64_t size, int flags, int fd, int64_t of
 
 void memory_none(void)
 {
-    place(0, WINDOW_END, MAP_PRIVATE | MAP_ANONYMOUS | MAP_NORESERVE, -1, 0);
+    place(0, window_end, MAP_PRIVATE | MAP_ANONYMOUS | MAP_NORESERVE, -1, 0);
     count = 0;
 }
 
@@ -56,13 +57,29 @@ static void remember(uint64_t address, uint64_t size)
     regions[count++] = region;
 }
 
-/* The controller has addresses of 32 bits: what lies above it cannot reach. */
+void memory_widen(void)
+{
+    window_end = WIDE_END;
+}
+
+bool memory_is_wide(void)
+{
+    return window_end == WIDE_END;
+}
+
+uint64_t memory_end(void)
+{
+    return window_end;
+}
+
+/* Unless the controller has addresses of 64 bits, what lies above 4 GiB it cannot reach. */
 void memory_add(uint64_t address, uint64_t size, int fd, int64_t offset)
 {
-    if (address >= WINDOW_END)
+    uint64_t end = address < WINDOW_END ? WINDOW_END : window_end;
+    if (address >= end || (address >= WINDOW_END && address < FOUR_GIB))
         return;
-    if (size > WINDOW_END - address)
-        size = WINDOW_END - address;
+    if (size > end - address)
+        size = end - address;
     whisper("memory %llx+%llx", (unsigned long long)address, (unsigned long long)size);
     place(address, size, MAP_SHARED, fd, offset);
     remember(address, size);

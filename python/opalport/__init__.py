@@ -340,7 +340,7 @@ class _Handle(ctypes.Structure):
 
 class _Size(ctypes.Structure):
     _fields_ = [("sectors", ctypes.c_uint64), ("shadow", ctypes.c_uint64), ("datastore", ctypes.c_uint64),
-                ("seed", ctypes.c_uint64), ("profile", ctypes.c_uint32)]
+                ("seed", ctypes.c_uint64), ("profile", ctypes.c_uint32), ("wide", ctypes.c_bool)]
 
 
 class _Range(ctypes.Structure):
@@ -421,7 +421,7 @@ _CALLS = {
     "clone": (ctypes.c_uint32, [*_HANDLE, *_HANDLE]),
     "save": (_Count, [*_HANDLE, *_BYTES]),
     "drive_load": (ctypes.c_uint32, [*_HANDLE, *_BYTES]),
-    "hba_load": (ctypes.c_uint32, [*_HANDLE, *_BYTES]),
+    "hba_load": (ctypes.c_uint32, [*_HANDLE, *_BYTES, ctypes.c_bool]),
     "free": (ctypes.c_uint32, _HANDLE),
     "drive_accept": (_Answer, [*_HANDLE, *_BYTES, *_BYTES]),
     "drive_complete": (_Answer, [*_HANDLE, ctypes.c_uint8, *_BYTES]),
@@ -453,10 +453,10 @@ _CALLS = {
     "hba_write": (ctypes.c_uint32, [*_HANDLE, ctypes.c_uint32, ctypes.c_uint32]),
     "hba_interrupt": (_Count, _HANDLE),
     "hba_power_cycle": (ctypes.c_uint32, _HANDLE),
-    "hba_turn": (_Worked, [*_HANDLE, ctypes.c_size_t, ctypes.c_uint32, *_BYTES]),
+    "hba_turn": (_Worked, [*_HANDLE, ctypes.c_size_t, ctypes.c_uint64, *_BYTES]),
     "hba_turn_within": (
         _Worked,
-        [*_HANDLE, ctypes.c_size_t, ctypes.c_uint32, *_BYTES, ctypes.POINTER(_Region), ctypes.c_size_t],
+        [*_HANDLE, ctypes.c_size_t, ctypes.c_uint64, *_BYTES, ctypes.POINTER(_Region), ctypes.c_size_t],
     ),
     "hba_denial": (_Count, [*_HANDLE, *_BYTES]),
     "hba_denied": (_Denied, _HANDLE),
@@ -606,6 +606,7 @@ class _Object:
     """What a handle has. It is freed by `close`, at the end of a `with`, or with the last reference."""
 
     _make = ""
+    _wide = False
 
     def __init__(self, *, sectors: Optional[int] = None, shadow: Optional[int] = None, msid: Bytes = MSID, ranges: Sequence[Range] = (),
                  profile: str = "base", serial: str = "", model: str = "", psid: Bytes = b"",
@@ -617,7 +618,7 @@ class _Object:
             raise ValueError(f"{profile!r} is no profile: {', '.join(PROFILES)}")
         new = (524_288, 262_144) if profile == "opal" else (1000, 8)
         sizes = (_within(new[at] if it is None else it, 2**64 - 1) for at, it in enumerate((sectors, shadow)))
-        size = _Size(*sizes, store, _within(seed, 2**64 - 1), PROFILES.index(profile))
+        size = _Size(*sizes, store, _within(seed, 2**64 - 1), PROFILES.index(profile), self._wide)
         texts = _bytes(serial.encode("utf-8")), _bytes(model.encode("utf-8"))
         make = getattr(_LIBRARY, self._make)
         _check(make(self._handle, size, *_bytes(msid), *texts[0], *texts[1], *_bytes(psid), rows, len(ranges)))
@@ -653,11 +654,11 @@ class _Object:
         return copied
 
     @classmethod
-    def _loaded(cls: Type[_Self], call: Any, saved: Bytes) -> _Self:
+    def _loaded(cls: Type[_Self], call: Any, saved: Bytes, *words: Any) -> _Self:
         """What a call makes of the bytes of a drive."""
         loaded = cls.__new__(cls)
         loaded._hold_nothing()
-        _check(call(loaded._handle, *_bytes(saved)))
+        _check(call(loaded._handle, *_bytes(saved), *words))
         return loaded
 
     def save(self) -> bytes:
@@ -892,13 +893,19 @@ class Port(_Object):
 class Hba(_Object):
     """An AHCI controller with one port, and the drive behind it: registers, and memory of yours."""
 
+    _make = "hba_new"
+
+    def __init__(self, *, wide_addresses: bool = False, **drive: Any) -> None:
+        """A controller over the drive that `Drive` makes of these settings. With `wide_addresses` CAP.S64A is 1: its addresses have
+        64 bits, and else are below 4 GiB."""
+        self._wide = bool(wide_addresses)
+        super().__init__(**drive)
+
     @classmethod
-    def load(cls, saved: Bytes) -> "Hba":
+    def load(cls, saved: Bytes, *, wide_addresses: bool = False) -> "Hba":
         """A controller over the drive that was saved as these bytes, as `Drive.load`. Its registers are as after its reset, and it
         counts the acts of its drive from then on."""
-        return cls._loaded(_LIBRARY.hba_load, saved)
-
-    _make = "hba_new"
+        return cls._loaded(_LIBRARY.hba_load, saved, bool(wide_addresses))
 
     def read(self, offset: int) -> int:
         """The 32 bits at an offset of the registers; 0 where no register is."""
@@ -930,7 +937,7 @@ class Hba(_Object):
         of its first byte and how many bytes it has, the bytes that lie in them alone are memory: an access is answered where all
         its bytes lie in one region, and any other finds no memory."""
         buffer, length = _room(memory)
-        words = _within(choice, 2**64 - 1), _within(base, 2**32 - 1)
+        words = _within(choice, 2**64 - 1), _within(base, 2**64 - 1)
         if regions is None:
             with self._lock:
                 told = _LIBRARY.hba_turn(self._handle, *words, buffer, length)

@@ -10,8 +10,11 @@ use Rattle.hba_regs.specs.declared.register.Register.TheVariants as at
 use Rattle.hba_regs.specs.Registers.{has_bits, run_if, command_word, without, start_bit, receive_bit}
 use Rattle.hba_regs.proofs.AccessBits.{kept_bits, dropped_bits, one_bit, active_of, issued_of}
 use Rattle.hba.specs.declared.registers.Registers.{Registers}
-use Rattle.hba.specs.Registers.{word_at, written_at, port_word, kept, overridden, stopped_if, lost_if, found_if, goes_down, comes_up, generic_word, after_hba_reset, asks, change_bit, phy_change_bit, exchange_bit, phy_error_bit, reset_bit, enable_bit, override_bit, packet_bit, light_bit, power_bits, control_bits}
-use Rattle.hba.specs.AccessTypes.{RowsLaw, generic_rows, place_rows, command_rows, state_rows, HasOwnBits, FollowedLaw, WrittenStartLaw}
+use Rattle.host_memory.specs.declared.width.AddressWidth.{AddressWidth}
+use Rattle.host_memory.specs.declared.width.AddressWidth.TheVariants as widths
+use Rattle.hba_regs.specs.AccessTypes.{ReadsSo}
+use Rattle.hba.specs.Registers.{upper_written, word_at, written_at, port_word, kept, overridden, stopped_if, lost_if, found_if, goes_down, comes_up, generic_word, after_hba_reset, asks, change_bit, phy_change_bit, exchange_bit, phy_error_bit, reset_bit, enable_bit, override_bit, packet_bit, light_bit, power_bits, control_bits}
+use Rattle.hba.specs.AccessTypes.{UpperRowsLaw, upper_access, RowsLaw, generic_rows, place_rows, command_rows, state_rows, HasOwnBits, FollowedLaw, WrittenStartLaw}
 
 -- Bits of bits, the other way round.
 swap : (word one other : ℕ) → bit_and (bit_and word one) other ≡ bit_and (bit_and word other) one
@@ -351,26 +354,20 @@ place_law regs value k v =
       (
         (λ e. dropped_bits value 0xfffffc00 0x3ff refl),
         (
-          (λ e. refl),
+          (λ e. kept_bits value 0xffffff00 refl),
           (
-            (λ e. kept_bits value 0xffffff00 refl),
+            (λ e. dropped_bits value 0xffffff00 0xff refl),
             (
-              (λ e. dropped_bits value 0xffffff00 0xff refl),
+              (λ e. raised_row ex ph raised value),
               (
-                (λ e. refl),
+                (λ e. tt),
                 (
-                  (λ e. raised_row ex ph raised value),
+                  (λ e. unraised_row ex ph raised value k.raised),
                   (
-                    (λ e. tt),
+                    (λ e. kept_bits value 0x7dc0007f refl),
                     (
-                      (λ e. unraised_row ex ph raised value k.raised),
-                      (
-                        (λ e. kept_bits value 0x7dc0007f refl),
-                        (
-                          (λ e. dropped_bits value 0x7dc0007f 0x823fff80 refl),
-                          tt,
-                        ),
-                      ),
+                      (λ e. dropped_bits value 0x7dc0007f 0x823fff80 refl),
+                      tt,
                     ),
                   ),
                 ),
@@ -380,6 +377,18 @@ place_law regs value k v =
         ),
       ),
     )
+
+-- PxCLBU and PxFBU.
+upper_row : (width : AddressWidth) (running : Bool) (before value : ℕ)
+    → ReadsSo (upper_access width) running 0xffffffff value before (upper_written width before value)
+upper_row widths.Bits32 running before value = refl
+upper_row widths.Bits64 running before value = refl
+
+pub upper_law : UpperRowsLaw
+upper_law regs value v = (
+  (λ e. upper_row regs.width regs.port.running regs.list_upper value),
+  ((λ e. upper_row regs.width regs.port.running regs.fis_upper value), tt),
+)
 
 pub command_law : RowsLaw command_rows
 command_law regs value k v = (

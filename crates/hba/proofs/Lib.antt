@@ -20,6 +20,7 @@ pub mod AccessRows
 pub mod Reaches
 pub mod OwnBits
 pub mod TaskBits
+pub mod Addresses
 pub mod Served
 pub mod Rests
 pub mod Orders

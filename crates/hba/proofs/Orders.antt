@@ -16,6 +16,7 @@ use Rattle.host_memory.specs.declared.hba_memory.reading.Header.{Header}
 use Rattle.host_memory.specs.declared.hba_memory.reading.Moved.{Moved}
 use Rattle.host_memory.specs.declared.hba_memory.delivery.Arrival.{Arrival}
 use Rattle.host_memory.specs.declared.hba_memory.delivery.Place.{Place}
+use Rattle.host_memory.specs.declared.width.AddressWidth.{AddressWidth}
 use Rattle.host_memory.specs.Memory.{is_sound_header, command_table_of, header_by, data_at, data_len, descriptors_of, data_taken, written_by, ending, moved_by, then_bytes, BringsBlock, BringsEntry, BringsNext, Gathers, Scatters, Counts, PostsTo, PostsOne, After, EndsBy}
 use Rattle.hba.specs.declared.registers.Registers.{Registers}
 use Rattle.hba.specs.History.{facts_of, Opened, Operation, Missed, Controlled, Asserted, Restarted, Unheard, Fetched, Completed, Account, account, acts_of, regs_of, drive_effect}
@@ -209,16 +210,16 @@ sound_first true m o a tag bytes talk done from h = table_first m o a tag (named
 abbrev of_header : MemoryAnswers → Opened → Account → ℕ → Option (List ℕ) → List (Bool × Operation)
 of_header m o a tag header =
     (is_none header, Missed (Some tag) misses.List)
-    ∷ (not (is_sound_header (bytes_read header)), Missed (Some tag) misses.Table)
+    ∷ (not (is_sound_header a.registers.width (bytes_read header)), Missed (Some tag) misses.Table)
     ∷ of_fis m o a tag (named (bytes_read header)) (m (command_table_of (bytes_read header)) h2d_length)
 
 header_first : (m : MemoryAnswers) (o : Opened) (a : Account) (tag : ℕ) (header : Option (List ℕ)) (talk : List Access) (done : Operation)
-    → AreAnswered m talk → FetchesFrom o a tag (header_by header) talk done
+    → AreAnswered m talk → FetchesFrom o a tag (header_by a.registers.width header) talk done
     → EndsFirst (first_rule (of_header m o a tag header))
     (Fetched tag (bytes_read (m (command_table_of (bytes_read header)) h2d_length))) done
 header_first m o a tag None talk done from h = h.1
 header_first m o a tag (Some bytes) talk done from h =
-    sound_first (is_sound_header bytes) m o a tag bytes talk done from h
+    sound_first (is_sound_header a.registers.width bytes) m o a tag bytes talk done from h
 
 pub fetch_order : FetchOrder
 fetch_order m o list tag talk done h from =
@@ -229,9 +230,10 @@ fetch_order m o list tag talk done h from =
     answered.0 (header_first m o a tag h.0 h.1 done answered.1 h.3)
 
 -- A completion.
-abbrev of_held : MemoryAnswers → ℕ → ℕ → Option (List ℕ) → List (Bool × Operation)
-of_held m tag n header =
-    (is_none header, Missed None misses.List) ∷ (not (is_sound_header (bytes_read header)), Missed None misses.Table)
+abbrev of_held : MemoryAnswers → AddressWidth → ℕ → Option (List ℕ) → List (Bool × Operation)
+of_held m width n header =
+    (is_none header, Missed None misses.List)
+    ∷ (not (is_sound_header width (bytes_read header)), Missed None misses.Table)
     ∷ rules_of_data (Missed None) m (bytes_read header) n
 
 sound_held : (is : Bool) (m : MemoryAnswers) (o : Opened) (a : Account) (tag n : ℕ) (bytes : List ℕ) (talk : List Access) (done : Operation)
@@ -242,18 +244,18 @@ sound_held true m o a tag n bytes talk done from h =
     serve_first m o a (place_of a.registers tag (named bytes)) n None (Complete tag) (Completed tag) talk done from h
 
 header_held : (m : MemoryAnswers) (o : Opened) (a : Account) (tag n : ℕ) (header : Option (List ℕ)) (talk : List Access) (done : Operation)
-    → AreAnswered m talk → CompletesFrom o a tag n (header_by header) talk done
-    → EndsFirst (first_rule (of_held m tag n header)) (Completed tag) done
+    → AreAnswered m talk → CompletesFrom o a tag n (header_by a.registers.width header) talk done
+    → EndsFirst (first_rule (of_held m a.registers.width n header)) (Completed tag) done
 header_held m o a tag n None talk done from h = h.1
 header_held m o a tag n (Some bytes) talk done from h =
-    sound_held (is_sound_header bytes) m o a tag n bytes talk done from h
+    sound_held (is_sound_header a.registers.width bytes) m o a tag n bytes talk done from h
 
 pub completion_order : CompletionOrder
 completion_order m o list tag talk done h from =
     let a = account o list in
     let answered : AreAnswered m (Asked (header_at a.registers tag) header_size h.0 ∷ h.1) = subst (AreAnswered m) h.2 from in
     subst (λ (header : Option (List ℕ)).
-    EndsFirst (first_rule (of_held m tag (wanted_after o a tag) header)) (Completed tag) done)
+    EndsFirst (first_rule (of_held m a.registers.width (wanted_after o a tag) header)) (Completed tag) done)
     answered.0 (header_held m o a tag (wanted_after o a tag) h.0 h.1 done answered.1 h.3)
 
 pub ready_order : ReadyOrder

@@ -207,8 +207,8 @@ pub writes_law : WritesLaw
 writes_law works.Signature o list talk done h = posts_to_own None (fises_at (account o list).registers) (signature_fis ∷ []) talk h.0 h.1
 writes_law (works.Fetch tag) o list talk done h =
     let a = account o list in
-    subst (Own a tag None) (sym h.2) (weaker (Some (header_at a.registers tag)) (fises_at a.registers) h.0 h.1 (from_own o a tag (header_by h.0) h.1 done h.3))
+    subst (Own a tag None) (sym h.2) (weaker (Some (header_at a.registers tag)) (fises_at a.registers) h.0 h.1 (from_own o a tag (header_by a.registers.width h.0) h.1 done h.3))
 writes_law (works.Complete tag) o list talk done h =
     let a = account o list in
     subst (Own a tag None) (sym h.2)
-    (weaker (Some (header_at a.registers tag)) (fises_at a.registers) h.0 h.1 (end_own o a tag (wanted_after o a tag) (header_by h.0) h.1 done h.3))
+    (weaker (Some (header_at a.registers tag)) (fises_at a.registers) h.0 h.1 (end_own o a tag (wanted_after o a tag) (header_by a.registers.width h.0) h.1 done h.3))

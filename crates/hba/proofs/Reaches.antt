@@ -7,8 +7,10 @@ use Rattle.hba_regs.specs.declared.register.Register.TheVariants as at
 use Rattle.hba_regs.specs.Registers.{register_at, has_bits, run_if, start_bit, receive_bit}
 use Rattle.hba_regs.specs.AccessTypes.{StaysUnless, register_offset}
 use Rattle.hba.specs.declared.registers.Registers.{Registers}
+use Rattle.host_memory.specs.declared.width.AddressWidth.{AddressWidth}
 use Rattle.hba.specs.Registers.{port_at, port_word, port_word_of, port_written, port_written_of, kept, optioned, overridden, stopped_if, lost_if, found_if, goes_down, comes_up, generic_word, generic_written, after_hba_reset, noted, asks, reset_bit, enable_bit, ahci_bit, override_bit, packet_bit, light_bit, control_bits, capabilities, version}
 use Rattle.hba.specs.AccessTypes.{reaches_register, reaches_of, resets_hba, UnreachedRegistersLaw}
+use Rattle.hba.proofs.Addresses.{port_width}
 
 -- A word of the port looks at no bit of GHC and IS.
 port_as : (regs : Registers) (enables raises : Bool) (register : Option Register)
@@ -94,21 +96,21 @@ generic_port regs false false resets enables raises register e =
     port_as regs regs.interrupts_enabled (regs.is_raised || asks regs) register
 
 -- A generic register looks at GHC.IE and IS.IPS alone.
-generic_as : (is0 is4 is8 isc is10 was now raised other : Bool) → (is4 ≡ true → now ≡ was) → is8 ≡ false
-    → (if is0 then capabilities
+generic_as : (width wide : AddressWidth) (is0 is4 is8 isc is10 was now raised other : Bool) → wide ≡ width → (is4 ≡ true → now ≡ was) → is8 ≡ false
+    → (if is0 then capabilities wide
     else (if is4 then ahci_bit + enable_bit * bit now
     else (if is8 then bit other
     else (if isc then 1
     else (if is10 then version else 0)))))
-    ≡ (if is0 then capabilities
+    ≡ (if is0 then capabilities width
     else (if is4 then ahci_bit + enable_bit * bit was
     else (if is8 then bit raised
     else (if isc then 1
     else (if is10 then version else 0)))))
-generic_as true is4 is8 isc is10 was now raised other h e = refl
-generic_as false true is8 isc is10 was now raised other h e = ap (λ (b : Bool). ahci_bit + enable_bit * bit b) (h refl)
-generic_as false false true isc is10 was now raised other h e = grind arith
-generic_as false false false isc is10 was now raised other h e = refl
+generic_as width wide true is4 is8 isc is10 was now raised other w h e = ap capabilities w
+generic_as width wide false true is8 isc is10 was now raised other w h e = ap (λ (b : Bool). ahci_bit + enable_bit * bit b) (h refl)
+generic_as width wide false false true isc is10 was now raised other w h e = grind arith
+generic_as width wide false false false isc is10 was now raised other w h e = refl
 
 command_enables : (stops override : Bool) (regs : Registers)
     → (stopped_if stops (overridden override regs)).interrupts_enabled ≡ regs.interrupts_enabled
@@ -156,6 +158,16 @@ generic_enables regs offset value at true resets is_status enables raises c e o 
 generic_enables regs offset value at false resets true enables raises c e o a = refl
 generic_enables regs offset value at false resets false enables raises c e o a = refl
 
+generic_width : (regs : Registers) (is_control resets is_status enables raises : Bool)
+    → (if is_control
+    then (if resets then after_hba_reset regs else record regs { interrupts_enabled = enables })
+    else (if is_status then record regs { is_raised = raises } else regs)).width
+    ≡ regs.width
+generic_width regs true true is_status enables raises = refl
+generic_width regs true false is_status enables raises = refl
+generic_width regs false resets true enables raises = refl
+generic_width regs false resets false enables raises = refl
+
 stays_if : (reached : Bool) (before after : ℕ) → (reached ≡ false → after ≡ before) → StaysUnless reached before after
 stays_if true before after h = tt
 stays_if false before after h = h refl
@@ -192,14 +204,14 @@ from_port : (regs : Registers) (value offset at : ℕ) (written read : Option Re
     → Stays true false written read regs (noted (port_written_of regs written value)) offset at
 from_port regs value offset at None read =
     stays_if (at == 0x08 || offset == at) _ _
-    (λ e. generic_as (at == 0x00) (at == 0x04) (at == 0x08) (at == 0x0c) (at == 0x10) regs.interrupts_enabled
-    regs.interrupts_enabled regs.is_raised (regs.is_raised || asks regs) (λ is. refl)
+    (λ e. generic_as regs.width regs.width (at == 0x00) (at == 0x04) (at == 0x08) (at == 0x0c) (at == 0x10) regs.interrupts_enabled
+    regs.interrupts_enabled regs.is_raised (regs.is_raised || asks regs) refl (λ is. refl)
     (or_left (at == 0x08) (offset == at) e))
 from_port regs value offset at (Some written) read =
     let now = noted (port_written_of regs (Some written) value) in
     stays_if (at == 0x08 || offset == at) _ _
-    (λ e. generic_as (at == 0x00) (at == 0x04) (at == 0x08) (at == 0x0c) (at == 0x10) regs.interrupts_enabled
-    now.interrupts_enabled regs.is_raised now.is_raised (λ is. port_enables regs value (Some written))
+    (λ e. generic_as regs.width now.width (at == 0x00) (at == 0x04) (at == 0x08) (at == 0x0c) (at == 0x10) regs.interrupts_enabled
+    now.interrupts_enabled regs.is_raised now.is_raised (port_width value regs written) (λ is. port_enables regs value (Some written))
     (or_left (at == 0x08) (offset == at) e))
 
 from_generic : (regs : Registers) (value offset at : ℕ) (written read : Option Register) → resets_hba offset value ≡ false
@@ -207,8 +219,10 @@ from_generic : (regs : Registers) (value offset at : ℕ) (written read : Option
 from_generic regs value offset at written read s =
     let now = noted (generic_written regs offset value) in
     stays_if (at == 0x08 || offset == at) _ _
-    (λ e. generic_as (at == 0x00) (at == 0x04) (at == 0x08) (at == 0x0c) (at == 0x10) regs.interrupts_enabled
+    (λ e. generic_as regs.width now.width (at == 0x00) (at == 0x04) (at == 0x08) (at == 0x0c) (at == 0x10) regs.interrupts_enabled
     now.interrupts_enabled regs.is_raised now.is_raised
+    (generic_width regs (offset == 0x04) (has_bits value reset_bit) (offset == 0x08) (has_bits value enable_bit)
+    (regs.is_raised && not (has_bits value 1)))
     (λ is. generic_enables regs offset value at (offset == 0x04) (has_bits value reset_bit) (offset == 0x08)
     (has_bits value enable_bit) (regs.is_raised && not (has_bits value 1)) refl s
     (or_right (at == 0x08) (offset == at) e) is)

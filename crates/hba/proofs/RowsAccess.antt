@@ -1,11 +1,12 @@
 -- Worked rows of the access types, computed from the table alone.
 use Rattle.std.proofs.Common.{◌≡◌, ℕ, true, false, List, [], ◌∷◌, ◌++◌, refl}
 use Rattle.std.specs.Prelude.{◌+◌, ◌==◌, Bool, bit_or, if◌then◌else◌}
-use Rattle.hba.specs.AccessTypes.{OffsetRow, generic_rows, place_rows, command_rows, state_rows, reaches_at}
+use Rattle.host_memory.specs.declared.width.AddressWidth.TheVariants as widths
+use Rattle.hba.specs.AccessTypes.{OffsetRow, upper_rows, generic_rows, place_rows, command_rows, state_rows, reaches_at}
 
 -- The rows of a register have each of its 32 bits, and each once.
 abbrev rows : List OffsetRow
-rows = generic_rows ++ place_rows ++ command_rows ++ state_rows
+rows = generic_rows ++ place_rows ++ upper_rows widths.Bits64 ++ command_rows ++ state_rows
 
 abbrev sum_at : ℕ → List OffsetRow → ℕ
 sum_at offset [] = 0
@@ -39,6 +40,9 @@ reached offset (at ∷ later) =
 
 row_list_base : reached 0x100 registers ≡ 0x100 ∷ []
 row_list_base = refl
+
+row_list_upper : reached 0x104 registers ≡ 0x104 ∷ []
+row_list_upper = refl
 
 row_interrupts : reached 0x110 registers ≡ 0x110 ∷ []
 row_interrupts = refl

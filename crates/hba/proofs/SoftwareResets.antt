@@ -1,7 +1,7 @@
 -- FISes that carry no command, by SRST.
 use Rattle.std.proofs.Common.{◌≡◌, ℕ, Bool, true, false, List, [], ◌∷◌, Option, None, refl, sym, ap, subst, ◌∙◌}
 use Rattle.fis.specs.declared.any.Fis.{Fis}
-use Rattle.host_memory.specs.Access.{Access, Accessed}
+use Rattle.host_memory.specs.Access.{IsAccess, Access, Accessed}
 use Rattle.host_memory.specs.declared.hba_memory.miss.Miss.{Miss}
 use Rattle.host_memory.specs.declared.hba_memory.delivery.Place.{Place}
 use Rattle.host_memory.specs.Memory.{PostsTo}
@@ -57,7 +57,7 @@ drops does old now new tag fis w e adds =
 pub restarts : {M : Type 0} (does : M → Access → M → Type 0) (old : State) (before : M) (new : State)
     (after : M) (tag : ℕ) (to : Option ℕ) (fises : List Fis) (missed : Option Miss)
     → fises ≡ signature_fis ∷ [] → to ≡ fises_at old.registers
-    → ((talk : List Access) × Accessed does before talk after × PostsTo to fises talk missed)
+    → ((talk : List Access) × Accessed (IsAccess old.registers.width does) before talk after × PostsTo to fises talk missed)
     → Adds (Restarted tag) old new
     → TurnsAs does (λ o a. ControlsTo false true a tag) old before new after dones.Control (IsHeard None)
 restarts does old before new after tag to fises missed f e p adds = (

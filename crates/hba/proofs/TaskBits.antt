@@ -40,7 +40,7 @@ at_offset look port reset regs value p r e s false register true is_status false
 at_offset look port reset regs value p r e s false register false true resets enables raises = s raises
 at_offset look port reset regs value p r e s false register false false resets enables raises = refl
 
-left_so : {A : Type 0} (look : Registers → A) (port : Register → A) (reset : A) (regs : Registers) (offset value : ℕ)
+pub left_so : {A : Type 0} (look : Registers → A) (port : Register → A) (reset : A) (regs : Registers) (offset value : ℕ)
     → ((other : Registers) → look (noted other) ≡ look other)
     → ((register : Register) → look (port_written regs register value) ≡ port register)
     → look (after_hba_reset regs) ≡ reset

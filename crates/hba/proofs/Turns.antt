@@ -12,6 +12,7 @@ use Rattle.history.specs.Events.{Event}
 use Rattle.history.specs.History.{Act, Accept, Complete}
 use Rattle.drive.specs.Queue.{held_at}
 use Rattle.slots.specs.Layout.{header_size, descriptor_size}
+use Rattle.host_memory.specs.declared.width.AddressWidth.{AddressWidth}
 use Rattle.host_memory.specs.Access.{Access, Asked, IsAccess, Accessed, OnlyReads, AreReads}
 use Rattle.host_memory.proofs.Accesses.{accessed_append}
 use Rattle.host_memory.specs.declared.hba_memory.miss.Miss.{Miss}
@@ -31,8 +32,9 @@ use Rattle.hba.specs.declared.work.Done.TheVariants as dones
 use Rattle.hba.specs.Showing.{fault_of, arrived, fetching}
 use Rattle.hba.specs.History.{Opened, Operation, Wrote, Powered, Signed, Missed, Controlled, Asserted, Restarted, Unheard, Fetched, Completed, Account, State, HasActed, AgreesHba, Adds, account, acts_of, regs_of, effect_after, TellsDenial, IsHeard, IsHeardOf, denial_heard}
 use Rattle.hba.specs.Ready.{ready_on, picked}
-use Rattle.hba.specs.Engine.{header_at, fises_at, place_of, IsEffect, ServesSo, Executes, Controls, HearsIf, FetchesIf, FetchesFis, FetchesFrom, Fetches, CompletesFrom, Completes, Signs, signature_fis, IsWork, done_of, TurnsAs, TurnsBy, HasRun, Runs, HasStopped}
+use Rattle.hba.specs.Engine.{header_at, fises_at, place_of, IsEffect, ServesSo, Executes, Controls, HearsIf, FetchesIf, FetchesFis, FetchesFrom, Fetches, CompletesFrom, Completes, Signs, signature_fis, IsWork, done_of, TurnsAs, TurnsBy, HasRun, HasRead, Runs, HasStopped}
 use Rattle.hba.proofs.Works.{ready_same}
+use Rattle.hba.proofs.Addresses.{width_stays}
 
 -- The account of a list, with the registers of an HBA that agrees with it.
 abbrev with_registers : State → Opened → List Operation → Account
@@ -47,7 +49,7 @@ same_account hba o list a =
 pub turn_behind : {M : Type 0} (does : M → Access → M → Type 0)
     (First Next : Opened → Account → List Access → Operation → Type 0)
     (old : State) (before middle : M) (new : State) (after : M) (done : Done) (heard : Option Heard)
-    (access : Access) → IsAccess does before access middle
+    (access : Access) → IsAccess old.registers.width does before access middle
     → ((o : Opened) (list : List Operation) → AgreesHba old o list → (talk : List Access)
     (operation : Operation) → Next o (account o list) talk operation
     → First o (account o list) (access ∷ talk) operation)
@@ -186,7 +188,8 @@ Delivered does place moved fises bytes before after arrival =
 
 pub serves_missed : {M : Type 0} (does : M → Access → M → Type 0) (place : Place) (n : ℕ)
     (fetched : Option ℕ) (act : List ℕ → Act) (operation : List ℕ → Arrival → Operation) (old : State) (before : M)
-    (new : State) (after : M) (miss : Miss) → Brought does place n before after (Err miss)
+    (new : State) (after : M) (miss : Miss)
+    → Brought (IsAccess old.registers.width does) place n before after (Err miss)
     → Adds (Missed fetched miss) old new
     → TurnsAs does (λ o a. ServesSo o a place n fetched act operation) old before new after
     (dones.Fault (fault_of miss)) (IsHeard None)
@@ -220,8 +223,8 @@ pub serves_done : {M : Type 0} (does : M → Access → M → Type 0) (place : P
     (fetched : Option ℕ) (act : List ℕ → Act) (operation : List ℕ → Arrival → Operation) (old : State)
     (before middle : M) (new : State) (after : M) (payload : List ℕ) (fises : List Fis)
     (bytes : List ℕ) (moved : Moved) (arrival : Arrival) (done : Done) (heard : Option Heard)
-    → BroughtBy does place n before middle (Ok payload) moved
-    → Delivered does place moved fises bytes middle after arrival
+    → BroughtBy (IsAccess old.registers.width does) place n before middle (Ok payload) moved
+    → Delivered (IsAccess old.registers.width does) place moved fises bytes middle after arrival
     → done_of (operation payload arrival) ≡ Some done
     → ((o : Opened) (list : List Operation) → AgreesHba old o list
     → IsEffect (effect_after o (account o list) (act payload)) fises bytes)
@@ -232,7 +235,7 @@ pub serves_done : {M : Type 0} (does : M → Access → M → Type 0) (place : P
 serves_done does place n fetched act operation old before middle new after payload fises bytes moved arrival done heard g d told gives adds says = (
   g.0 ++ d.0,
   operation payload arrival,
-  accessed_append does before middle after g.0 d.0 g.1 d.1,
+  accessed_append (IsAccess old.registers.width does) before middle after g.0 d.0 g.1 d.1,
   told,
   λ o list a. record {
     did = (
@@ -293,8 +296,8 @@ adds_completed old acted new tag payload fises bytes arrival has gives e = λ o 
 -- The header is read.
 pub fetch_header : {M : Type 0} (does : M → Access → M → Type 0) (old : State) (before middle : M)
     (new : State) (after : M) (done : Done) (heard : Option Heard) (tag : ℕ)
-    (answer : Option (List ℕ)) (read : Result Header Miss) → header_by answer ≡ read
-    → IsAccess does before (Asked (header_at old.registers tag) header_size answer) middle
+    (answer : Option (List ℕ)) (read : Result Header Miss) → header_by old.registers.width answer ≡ read
+    → IsAccess old.registers.width does before (Asked (header_at old.registers tag) header_size answer) middle
     → TurnsAs does (λ o a. FetchesFrom o a tag read) old middle new after done (IsHeard heard)
     → TurnsAs does (λ o a. Fetches o a tag) old before new after done (IsHeard heard)
 fetch_header does old before middle new after done heard tag answer read e answers t =
@@ -304,13 +307,14 @@ fetch_header does old before middle new after done heard tag answer read e answe
       answer,
       talk,
       ap (λ (r : Registers). Asked (header_at r tag) header_size answer ∷ talk) a.registers,
-      subst (λ (x : Result Header Miss). FetchesFrom o (account o list) tag x talk operation) (sym e) h,
+      subst (λ (x : Result Header Miss). FetchesFrom o (account o list) tag x talk operation)
+          (sym (ap (λ (r : Registers). header_by r.width answer) (sym a.registers) ∙ e)) h,
     )) t
 
 pub complete_header : {M : Type 0} (does : M → Access → M → Type 0) (old : State) (before middle : M)
     (new : State) (after : M) (done : Done) (heard : Option Heard) (tag n : ℕ)
-    (answer : Option (List ℕ)) (read : Result Header Miss) → header_by answer ≡ read
-    → IsAccess does before (Asked (header_at old.registers tag) header_size answer) middle
+    (answer : Option (List ℕ)) (read : Result Header Miss) → header_by old.registers.width answer ≡ read
+    → IsAccess old.registers.width does before (Asked (header_at old.registers tag) header_size answer) middle
     → TurnsAs does (λ o a. CompletesFrom o a tag n read) old middle new after done (IsHeard heard)
     → TurnsAs does (λ o a. Completes o a tag n) old before new after done (IsHeard heard)
 complete_header does old before middle new after done heard tag n answer read e answers t =
@@ -320,13 +324,14 @@ complete_header does old before middle new after done heard tag n answer read e 
       answer,
       talk,
       ap (λ (r : Registers). Asked (header_at r tag) header_size answer ∷ talk) a.registers,
-      subst (λ (x : Result Header Miss). CompletesFrom o (account o list) tag n x talk operation) (sym e) h,
+      subst (λ (x : Result Header Miss). CompletesFrom o (account o list) tag n x talk operation)
+          (sym (ap (λ (r : Registers). header_by r.width answer) (sym a.registers) ∙ e)) h,
     )) t
 
 -- The FIS is read.
 pub fetch_fis : {M : Type 0} (does : M → Access → M → Type 0) (old : State) (before middle : M)
     (new : State) (after : M) (done : Done) (heard : Option Heard) (tag : ℕ) (header : Header)
-    (fis : Option (List ℕ)) → IsAccess does before (Asked header.table h2d_length fis) middle
+    (fis : Option (List ℕ)) → IsAccess old.registers.width does before (Asked header.table h2d_length fis) middle
     → TurnsAs does (λ o a. FetchesFis o a (place_of a.registers tag header) tag fis) old middle new after done (IsHeard heard)
     → TurnsAs does (λ o a. FetchesFrom o a tag (Ok header)) old before new after done (IsHeard heard)
 fetch_fis does old before middle new after done heard tag header fis answers t =
@@ -403,7 +408,7 @@ completes does old before new after done heard tag t =
 pub signs : {M : Type 0} (does : M → Access → M → Type 0) (old : State) (before : M) (new : State)
     (after : M) (to : Option ℕ) (fises : List Fis) (missed : Option Miss)
     → fises ≡ signature_fis ∷ [] → to ≡ fises_at old.registers
-    → ((talk : List Access) × Accessed does before talk after × PostsTo to fises talk missed)
+    → ((talk : List Access) × Accessed (IsAccess old.registers.width does) before talk after × PostsTo to fises talk missed)
     → Adds Signed old new
     → TurnsAs does (λ o a. Signs a) old before new after dones.Posted (IsHeard None)
 signs does old before new after to fises missed f e p adds = (
@@ -426,7 +431,7 @@ signs does old before new after to fises missed f e p adds = (
 
 -- One read in front.
 pub read_first : {M : Type 0} (does : M → Access → M → Type 0) (before middle after : M) (at n : ℕ)
-    (answer : Option (List ℕ)) → IsAccess does before (Asked at n answer) middle
+    (answer : Option (List ℕ)) → does before (Asked at n answer) middle
     → OnlyReads does middle after → OnlyReads does before after
 read_first does before middle after at n answer a h =
     (Asked at n answer ∷ h.0, h.1, (middle, a, h.2))
@@ -434,7 +439,7 @@ read_first does before middle after at n answer a h =
 pub runs_none : {M : Type 0} (does : M → Access → M → Type 0) (old : State) (before : M)
     → Runs does 0 old before old before
 unfolding HasRun
-runs_none does old before = ([], refl, λ o list a. (list, a, (refl, refl)))
+runs_none does old before = ([], λ o list a. (refl, list, a, (refl, refl)))
 
 pub runs_more : {M : Type 0} (does : M → Access → M → Type 0) (n : ℕ) (first : State) (start : M)
     (old : State) (before : M) (new : State) (after : M) (work : Work) (done : Done)
@@ -442,22 +447,25 @@ pub runs_more : {M : Type 0} (does : M → Access → M → Type 0) (n : ℕ) (f
     → picked 0 (ready_on old) ≡ Some work → TurnsBy does work old before new after done Told
     → Runs does (n + 1) first start new after
 unfolding HasRun
-runs_more does n first start old before new after work done Told ran first_ready t = rw add-one (
+runs_more {M} does n first start old before new after work done Told ran first_ready t = rw add-one (
   ran.0 ++ t.0,
-  accessed_append does start before after ran.0 t.0 ran.1 t.2,
   λ o list a.
-      let r = ran.2 o list a in
-      let h = t.4 o r.0 r.1 in (
-        t.1 ∷ r.0,
+      let r = ran.1 o list a in
+      let h = t.4 o r.1 r.2 in
+      let width = ap (λ (x : Registers). x.width) r.2.registers ∙ width_stays o r.1 in
+      let turned : Accessed (IsAccess o.width does) before t.0 after =
+      subst (λ (w : AddressWidth). Accessed (IsAccess w does) before t.0 after) width t.2 in (
+        accessed_append (IsAccess o.width does) start before after ran.0 t.0 r.0 turned,
+        t.1 ∷ r.1,
         h.agrees,
         (
-          r.0,
+          r.1,
           ran.0,
           t.0,
           work,
           t.1,
-          r.2,
-          ap (picked 0) (sym (ready_same old o r.0 r.1)) ∙ first_ready,
+          r.3,
+          ap (picked 0) (sym (ready_same old o r.1 r.2)) ∙ first_ready,
           h.did,
           refl,
           refl,
@@ -468,12 +476,12 @@ runs_more does n first start old before new after work done Told ran first_ready
 -- It has run some turns, and then memory was read at most.
 pub has_stopped : {M : Type 0} (does : M → Access → M → Type 0) (n : ℕ) (first : State) (start : M)
     (old : State) (middle : M) (new : State) (after : M) → Runs does n first start old middle
-    → new ≡ old → OnlyReads does middle after → HasStopped does first start new after
+    → new ≡ old → HasRead does old middle after → HasStopped does first start new after
 has_stopped does n first start old middle new after ran e reads = (
   n,
   middle,
   subst (λ (s : State). Runs does n first start s middle) (sym e) ran,
-  reads,
+  subst (λ (s : State). HasRead does s middle after) (sym e) reads,
 )
 
 -- An outcome that is known.

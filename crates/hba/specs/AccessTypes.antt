@@ -7,6 +7,8 @@ use Rattle.hba_regs.specs.declared.register.Register.{Register}
 use Rattle.hba_regs.specs.Registers.{register_at, has_bits, start_bit, receive_bit, receiving_bit, running_bit}
 use Rattle.hba_regs.specs.AccessTypes.{AccessType, ReadOnly, ReadWrite, OneClears, OneSets, Acts, Follows, Reserved, ReadsSo, StaysUnless, register_offset, ends_list}
 use Rattle.hba.specs.declared.registers.Registers.{Registers}
+use Rattle.host_memory.specs.declared.width.AddressWidth.{AddressWidth}
+use Rattle.host_memory.specs.declared.width.AddressWidth.TheVariants as widths
 use Rattle.hba.specs.Registers.{word_at, written_at, port_at, reset_bit, change_bit, phy_change_bit, exchange_bit, phy_error_bit, asks}
 
 -- Bits at an offset, and their type.
@@ -28,17 +30,25 @@ generic_rows =
     ∷ bits_at 0x00c 0xffffffff ReadOnly
     ∷ bits_at 0x010 0xffffffff ReadOnly ∷ []
 
--- PxCLB, PxCLBU, PxFB, PxFBU (3.3.1 to 3.3.4); PxIS, of which PRCS and PCS follow PxSERR, and UFS, CPDS
+-- PxCLB and PxFB (3.3.1, 3.3.3); PxIS, of which PRCS and PCS follow PxSERR, and UFS, CPDS
 -- and DMPS are of what there is not (3.3.5); PxIE (3.3.6).
 abbrev pub place_rows : List OffsetRow
 place_rows =
     bits_at 0x100 0xfffffc00 ReadWrite ∷ bits_at 0x100 0x3ff Reserved
-    ∷ bits_at 0x104 0xffffffff ReadOnly
     ∷ bits_at 0x108 0xffffff00 ReadWrite ∷ bits_at 0x108 0xff Reserved
-    ∷ bits_at 0x10c 0xffffffff ReadOnly
     ∷ bits_at 0x110 0x7d80002f OneClears ∷ bits_at 0x110 0x00400040 Follows
     ∷ bits_at 0x110 0x823fff90 Reserved
     ∷ bits_at 0x114 0x7dc0007f ReadWrite ∷ bits_at 0x114 0x823fff80 Reserved ∷ []
+
+-- PxCLBU and PxFBU (3.3.2, 3.3.4), by CAP.S64A.
+abbrev pub upper_access : AddressWidth → AccessType
+upper_access widths.Bits32 = ReadOnly
+upper_access widths.Bits64 = ReadWrite
+
+abbrev pub upper_rows : AddressWidth → List OffsetRow
+upper_rows width =
+    bits_at 0x104 0xffffffff (upper_access width) ∷ bits_at 0x10c 0xffffffff (upper_access width)
+    ∷ []
 
 -- PxCMD (3.3.7): DLAE, ATAPI, CR, FR, CCS, FRE, CLO, POD and SUD, ST.
 abbrev pub command_rows : List OffsetRow
@@ -84,6 +94,12 @@ abbrev pub RowsLaw : List OffsetRow → Type 0
 RowsLaw rows =
     (regs : Registers) (value : ℕ) → HasOwnBits regs → value < 2 ^ 32
     → AllByRecursion (RowIsSo regs value) rows
+
+-- And so of those whose type an HBA's addresses decide.
+abbrev pub UpperRowsLaw : Type 0
+UpperRowsLaw =
+    (regs : Registers) (value : ℕ) → value < 2 ^ 32
+    → AllByRecursion (RowIsSo regs value) (upper_rows regs.width)
 
 -- The register of the port at an offset.
 abbrev pub stands_at : ℕ → Option Register

@@ -8,7 +8,7 @@ use Rattle.hba_regs.specs.Registers.{ready}
 use Rattle.history.specs.Answers.{expected, payload_of}
 use Rattle.history.specs.History.{Act, Accept, Complete}
 use Rattle.history.specs.Readers.{held}
-use Rattle.host_memory.specs.Access.{Access, Asked, Accessed, OnlyReads}
+use Rattle.host_memory.specs.Access.{Access, Asked, IsAccess, Accessed, OnlyReads}
 use Rattle.port_history.specs.Steps.{Effect}
 use Rattle.slots.specs.Layout.{header_size}
 use Rattle.hba.specs.declared.work.Work.{Work}
@@ -25,19 +25,20 @@ use Rattle.host_memory.specs.declared.hba_memory.reading.Moved.{Moved}
 use Rattle.host_memory.specs.declared.hba_memory.delivery.Arrival.{Arrival}
 use Rattle.host_memory.specs.declared.hba_memory.delivery.Place.{Place}
 use Rattle.slots.specs.Table.{is_command}
-use Rattle.host_memory.specs.Memory.{header_by, descriptors_of, moved_by, Gathers, PostsTo, Delivers}
+use Rattle.host_memory.specs.Memory.{upper_half, header_by, descriptors_of, moved_by, Gathers, PostsTo, Delivers}
 use Rattle.hba.specs.Showing.{fault_of}
 use Rattle.hba.specs.History.{whole_log, Opened, Operation, Wrote, Powered, Signed, Missed, Controlled, Asserted, Restarted, Unheard, Fetched, Completed, Account, State, AgreesHba, account, effect_after, TellsDenial, IsHeard}
 use Rattle.hba.specs.Ready.{picked, ready_after}
 use Rattle.hba.specs.SoftwareReset.{resets_behind}
 
--- Where the header of a slot stands.
+-- Where the header of a slot stands, by PxCLB and PxCLBU (3.3.1, 3.3.2).
 abbrev pub header_at : Registers → ℕ → ℕ
-header_at regs tag = regs.port.list_base + header_size * tag
+header_at regs tag = regs.port.list_base + upper_half regs.list_upper + header_size * tag
 
--- Where received FISes go: at PxFB, while FRE is set (3.3.3, 3.3.7).
+-- Where received FISes go: at PxFB and PxFBU, while FRE is set (3.3.3, 3.3.4, 3.3.7).
 abbrev pub fises_at : Registers → Option ℕ
-fises_at regs = if regs.port.receiving then Some regs.port.fis_base else None
+fises_at regs =
+    if regs.port.receiving then Some (regs.port.fis_base + upper_half regs.fis_upper) else None
 
 -- The places of a command, by the registers and its header.
 abbrev pub place_of : Registers → ℕ → Header → Place
@@ -130,7 +131,7 @@ abbrev pub Fetches : Opened → Account → ℕ → List Access → Operation �
 Fetches o a tag talk done =
     (header : Option (List ℕ)) × (later : List Access)
     × (talk ≡ Asked (header_at a.registers tag) header_size header ∷ later)
-    × FetchesFrom o a tag (header_by header) later done
+    × FetchesFrom o a tag (header_by a.registers.width header) later done
 
 abbrev pub CompletesFrom : Opened → Account → ℕ → ℕ → Result Header Miss → List Access → Operation
     → Type 0
@@ -143,7 +144,7 @@ abbrev pub Completes : Opened → Account → ℕ → ℕ → List Access → Op
 Completes o a tag n talk done =
     (header : Option (List ℕ)) × (later : List Access)
     × (talk ≡ Asked (header_at a.registers tag) header_size header ∷ later)
-    × CompletesFrom o a tag n (header_by header) later done
+    × CompletesFrom o a tag n (header_by a.registers.width header) later done
 
 -- The FISes and the data are those of an act.
 pub record IsEffect (effect : Effect) (sent : List Fis) (given : List ℕ) : Type 0 where
@@ -198,7 +199,8 @@ abbrev pub TurnsAs : {M : Type 0} → (M → Access → M → Type 0)
     → (Opened → Account → List Access → Operation → Type 0) → State → M → State → M → Done
     → (Opened → Account → Operation → Type 0) → Type 0
 TurnsAs does Did old before new after done Told =
-    (talk : List Access) × (operation : Operation) × Accessed does before talk after
+    (talk : List Access) × (operation : Operation)
+    × Accessed (IsAccess old.registers.width does) before talk after
     × (done_of operation ≡ Some done)
     × ((o : Opened) (list : List Operation) → AgreesHba old o list
     → TurnedSo o list operation new Told Did talk)
@@ -234,11 +236,16 @@ HasRun o (suc n) list talk after =
 -- Whatever list the HBA agreed with, it has run some turns after it.
 abbrev pub Runs : {M : Type 0} → (M → Access → M → Type 0) → ℕ → State → M → State → M → Type 0
 Runs does n old before new after =
-    (talk : List Access) × Accessed does before talk after
+    (talk : List Access)
     × ((o : Opened) (list : List Operation) → AgreesHba old o list
-    → (later : List Operation) × AgreesHba new o later × HasRun o n list talk later)
+    → Accessed (IsAccess o.width does) before talk after
+    × (later : List Operation) × AgreesHba new o later × HasRun o n list talk later)
+
+-- An HBA has read the host's memory at most.
+abbrev pub HasRead : {M : Type 0} → (M → Access → M → Type 0) → State → M → M → Type 0
+HasRead does hba before after = OnlyReads (IsAccess hba.registers.width does) before after
 
 -- It has run some turns, and then memory was read at most.
 abbrev pub HasStopped : {M : Type 0} → (M → Access → M → Type 0) → State → M → State → M → Type 0
 HasStopped {M} does old before new after =
-    (n : ℕ) × (middle : M) × Runs does n old before new middle × OnlyReads does middle after
+    (n : ℕ) × (middle : M) × Runs does n old before new middle × HasRead does new middle after

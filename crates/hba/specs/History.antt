@@ -14,6 +14,8 @@ use Rattle.hba.specs.declared.work.Heard.{Heard}
 use Rattle.port_history.specs.Steps.{Effect, effect_by}
 use Rattle.hba.specs.Blocks.{by_blocks}
 use Rattle.hba.specs.declared.registers.Registers.{Registers}
+use Rattle.host_memory.specs.declared.width.AddressWidth.{AddressWidth}
+use Rattle.host_memory.specs.declared.width.AddressWidth.TheVariants as widths
 use Rattle.host_memory.specs.declared.hba_memory.miss.Miss.{Miss}
 use Rattle.host_memory.specs.declared.hba_memory.delivery.Arrival.{Arrival}
 use Rattle.hba.specs.Registers.{reset_registers, written_at, write_resets}
@@ -37,14 +39,20 @@ pub data Operation : Type 0 where
   Fetched : (tag : ℕ) (fis payload : List ℕ) (arrival : Arrival) → Operation
   Completed : (tag : ℕ) (payload : List ℕ) (arrival : Arrival) → Operation
 
--- What an HBA was opened over: what its drive started from, and the acts that it had done before, the newest first.
+-- What an HBA was opened over: what its drive started from, and the acts that it had done before, the newest first; and how
+-- many bits its addresses have.
 pub record Opened : Type 0 where
   pub origin : Origin
   pub earlier : List Act
+  pub width : AddressWidth
 
--- a drive that had done none
+-- a drive that had done none, by an HBA with such addresses
+abbrev pub over_new_by : AddressWidth → Origin → Opened
+over_new_by width origin = record { origin = origin; earlier = []; width = width }
+
+-- whose addresses are below 4 GiB
 abbrev pub over_new : Origin → Opened
-over_new origin = record { origin = origin; earlier = [] }
+over_new origin = over_new_by widths.Bits32 origin
 
 -- All acts of the drive, where it has done these since the HBA was opened; the events of all of them, and the facts that
 -- these leave.
@@ -84,7 +92,7 @@ account_after o a (Wrote offset value) = record {
 account_after o a Powered = record {
   acts = Reset power_cycle
       ∷ a.acts;
-  registers = reset_registers;
+  registers = reset_registers a.registers.width;
 }
 account_after o a Signed = record a { registers = signed a.registers }
 account_after o a (Missed fetched miss) = record a {
@@ -104,7 +112,7 @@ account_after o a (Completed tag payload arrival) =
     acting tag (Complete tag payload) arrival (effect_after o a (Complete tag payload)) a
 
 abbrev pub account : Opened → List Operation → Account
-account o [] = record { acts = []; registers = reset_registers }
+account o [] = record { acts = []; registers = reset_registers o.width }
 account o (operation ∷ before) = account_after o (account o before) operation
 
 abbrev pub acts_of : Opened → List Operation → List Act

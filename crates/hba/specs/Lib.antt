@@ -11,5 +11,6 @@ pub mod Writes
 pub mod AccessTypes
 pub mod OwnBits
 pub mod TaskLaws
+pub mod AddressLaws
 pub mod Service
 pub mod Orders

@@ -76,7 +76,7 @@ fetch_rules m o a tag =
     let is_control = not (is_command (bytes_read fis)) in
     let was = a.registers.in_reset in
     (is_none header, Missed (Some tag) misses.List)
-    ∷ (not (is_sound_header (bytes_read header)), Missed (Some tag) misses.Table)
+    ∷ (not (is_sound_header a.registers.width (bytes_read header)), Missed (Some tag) misses.Table)
     ∷ (is_none fis, Missed (Some tag) misses.Table)
     ∷ (is_control && resets_behind was (bytes_read fis), Asserted tag)
     ∷ (is_control && was, Restarted tag)
@@ -90,7 +90,7 @@ abbrev pub completion_rules : MemoryAnswers → Opened → Account → ℕ → L
 completion_rules m o a tag =
     let header = header_in m a tag in
     (is_none header, Missed None misses.List)
-    ∷ (not (is_sound_header (bytes_read header)), Missed None misses.Table)
+    ∷ (not (is_sound_header a.registers.width (bytes_read header)), Missed None misses.Table)
     ∷ rules_of_data (Missed None) m (bytes_read header) (wanted_after o a tag)
 
 -- The drive was given the command, with bytes.

@@ -6,12 +6,15 @@ use Rattle.hba_regs.specs.declared.register.Register.{Register}
 use Rattle.hba_regs.specs.declared.register.Register.TheVariants as at
 use Rattle.hba_regs.specs.Registers.{Regs, register_at, word, rewritten, has_bits, start_bit, disk_signature}
 use Rattle.hba.specs.declared.registers.Registers.{Registers}
+use Rattle.host_memory.specs.declared.width.AddressWidth.{AddressWidth}
+use Rattle.host_memory.specs.declared.width.AddressWidth.TheVariants as widths
 
 -- CAP (3.1.1): one port, 32 slots, PIO blocks of several sectors, AHCI alone, the second
--- generation's speed, CLO, queued commands; addresses below 4 GiB, no staggered spin-up, no port
--- multiplier.
-abbrev pub capabilities : ℕ
-capabilities = 0x41249f00
+-- generation's speed, CLO, queued commands; no staggered spin-up, no port multiplier. S64A, bit 31,
+-- tells whether addresses have 64 bits.
+abbrev pub capabilities : AddressWidth → ℕ
+capabilities widths.Bits32 = 0x41249f00
+capabilities widths.Bits64 = 0xc1249f00
 
 -- GHC (3.1.2): HR, IE, and AE, which reads 1 where CAP.SAM is 1.
 abbrev pub reset_bit : ℕ
@@ -140,9 +143,12 @@ fresh_port = record {
   issued = 0;
 }
 
-abbrev pub reset_registers : Registers
-reset_registers = record {
+abbrev pub reset_registers : AddressWidth → Registers
+reset_registers width = record {
+  width = width;
   port = fresh_port;
+  list_upper = 0;
+  fis_upper = 0;
   interrupts_enabled = false;
   is_raised = false;
   is_signed = false;
@@ -164,6 +170,8 @@ interrupts regs =
 
 -- The word of a register of the port.
 abbrev pub port_word : Registers → Register → ℕ
+port_word regs at.ListBaseUpper = regs.list_upper
+port_word regs at.FisBaseUpper = regs.fis_upper
 port_word regs at.InterruptStatus = interrupts regs
 port_word regs at.Command =
     word regs.port at.Command + power_bits + 256 * regs.current
@@ -181,7 +189,7 @@ port_word_of regs (Some register) = port_word regs register
 
 abbrev pub generic_word : Registers → ℕ → ℕ
 generic_word regs offset =
-    if offset == 0x00 then capabilities
+    if offset == 0x00 then capabilities regs.width
     else (if offset == 0x04 then ahci_bit + enable_bit * bit regs.interrupts_enabled
     else (if offset == 0x08 then bit regs.is_raised
     else (if offset == 0x0c then 1
@@ -257,8 +265,18 @@ comes_up regs value = not (is_up regs.port.control) && is_up value
 abbrev pub kept : Registers → Register → ℕ → Registers
 kept regs register value = record regs { port = rewritten regs.port register value }
 
+-- PxCLBU and PxFBU (3.3.2, 3.3.4): what is written stays where addresses have 64 bits; else they are
+-- read only, and 0.
+abbrev pub upper_written : AddressWidth → ℕ → ℕ → ℕ
+upper_written widths.Bits32 before value = before
+upper_written widths.Bits64 before value = value
+
 -- What a write makes of a register of the port.
 abbrev pub port_written : Registers → Register → ℕ → Registers
+port_written regs at.ListBaseUpper value =
+    record regs { list_upper = upper_written regs.width regs.list_upper value }
+port_written regs at.FisBaseUpper value =
+    record regs { fis_upper = upper_written regs.width regs.fis_upper value }
 port_written regs at.InterruptEnable value =
     kept regs at.InterruptEnable (bit_and value enabled_bits)
 port_written regs at.Command value =
@@ -278,15 +296,17 @@ abbrev pub port_written_of : Registers → Option Register → ℕ → Registers
 port_written_of regs None value = regs
 port_written_of regs (Some register) value = port_written regs register value
 
--- A reset of the HBA (10.4.3) leaves PxCLB and PxFB as the host wrote them, with their upper halves,
--- which are 0. All else is as at the start.
+-- A reset of the HBA (10.4.3) leaves PxCLB and PxFB as the host wrote them, with their upper halves. All
+-- else is as at the start.
 abbrev pub with_places : ℕ → ℕ → Regs → Regs
 with_places list_base fis_base port =
     rewritten (rewritten port at.ListBase list_base) at.FisBase fis_base
 
 abbrev pub after_hba_reset : Registers → Registers
-after_hba_reset regs = record reset_registers {
+after_hba_reset regs = record (reset_registers regs.width) {
   port = with_places regs.port.list_base regs.port.fis_base fresh_port;
+  list_upper = regs.list_upper;
+  fis_upper = regs.fis_upper;
 }
 
 abbrev pub control_written : Registers → ℕ → Registers

@@ -2,7 +2,7 @@
 
 ghost use Rattle.std.specs.Prelude.{◌≡◌, ◌<◌, ◌≤◌, ◌^◌, List, ◌∷◌, Option, OnOk, OnErr, IfOk, length, is_some, true, Some, None};
 ghost use Rattle.history.specs.Answers.{payload_of, expected};
-ghost use Rattle.host_memory.specs.Access.{Access, Accessed, OnlyReads};
+ghost use Rattle.host_memory.specs.Access.{Access, IsAccess, Accessed};
 ghost use Rattle.host_memory.specs.Memory.{Gathers, brought_as, moved_by};
 ghost use Rattle.hba.specs.Engine.{signature_fis};
 
@@ -15,7 +15,7 @@ use fis::{Fis, H2D_LENGTH, Lba, RegD2h, RegH2d, Tag};
 use host_memory::hba_memory::{
     Arrival, Header, Miss, Moved, Place, deliver, gather, header_by, is_command, post_all,
 };
-use host_memory::{HostMemory, read_array};
+use host_memory::{AddressWidth, HostMemory, read_array};
 use std::alloc::AllocError;
 use std::mem::replace;
 
@@ -35,18 +35,20 @@ pub(crate) fn signature_fis() -> Fis
 /// Fills a room by the blocks that so many descriptors from an address on name, as `gather` fills bytes.
 fn bring<M: HostMemory>(
     memory: &mut M,
-    at: u64,
+    width: AddressWidth,
+    at: u128,
     entries: u16,
     room: &mut Vec<u8>,
 ) -> Result<Moved, Miss>
-    requires { at < 2 ^ 33 }
-    ensures brings { (talk : List Access) × Accessed M.does memory.old talk memory.new
+    requires { at < 2 ^ 65 }
+    ensures brings { (talk : List Access)
+        × Accessed (IsAccess width M.does) memory.old talk memory.new
         × Gathers at entries (length room.old.items) talk
         (brought_as (λ done. room.new.items) result)
         × IfOk result (λ moved. moved ≡ moved_by talk (length room.old.items)) }
     ensures long { length room.new.items ≡ length room.old.items }
 {
-    let moved = gather(memory, at, entries, room);
+    let moved = gather(memory, width, at, entries, room);
     moved
 }
 
@@ -60,7 +62,7 @@ impl Hba {
     ghost use Rattle.drive.specs.Queue.{held_at};
     ghost use Rattle.hba.specs.History.{Opened, Operation, Completed as CompletedTag, Signed, Missed, AgreesHba, HasActed, Adds, account, acts_of, drive_effect, effect_after, IsHeard};
     ghost use Rattle.hba.specs.Showing.{fetching, fault_of, arrived};
-    ghost use Rattle.hba.specs.Engine.{IsEffect, header_at, fises_at, place_of, done_by, Executes, Fetches, Completes, CompletesFrom, ServesSo, IsWork, TurnsAs, TurnsBy, Signs};
+    ghost use Rattle.hba.specs.Engine.{HasRead, IsEffect, header_at, fises_at, place_of, done_by, Executes, Fetches, Completes, CompletesFrom, ServesSo, IsWork, TurnsAs, TurnsBy, Signs};
     ghost use Rattle.hba.specs.Ready.{is_ready_on, takes_memory};
     ghost use Rattle.hba.specs.declared.work.Done.TheVariants as dones;
 
@@ -165,15 +167,22 @@ impl Hba {
     }
 
     /// Where the header of a slot stands.
-    fn header_at(&self, tag: Tag) -> u64
+    fn header_at(&self, tag: Tag) -> u128
         ensures value { result ≡ header_at self.now.registers tag }
-        ensures near { result < 2 ^ 40 }
+        ensures near { result < 2 ^ 65 }
     {
-        u64::from(self.registers.list_base()) + 32 * u64::from(tag.number())
+        u128::from(self.registers.list_base()) + 32 * u128::from(tag.number())
+    }
+
+    /// How many bits addresses have.
+    pub(crate) fn width(&self) -> AddressWidth
+        ensures { result ≡ self.now.registers.width }
+    {
+        self.registers.width()
     }
 
     /// Where received FISes go.
-    fn received_at(&self) -> Option<u32>
+    fn received_at(&self) -> Option<u64>
         ensures { result ≡ fises_at self.now.registers }
     {
         self.registers.received_at()
@@ -189,7 +198,7 @@ impl Hba {
     /// The places of the command of a slot.
     fn place_of(&self, tag: Tag, header: Header) -> Place
         ensures value { result ≡ place_of self.now.registers tag header }
-        ensures near { result.at < 2 ^ 40 }
+        ensures near { result.at < 2 ^ 65 }
     {
         Place {
             at: self.header_at(tag),
@@ -242,17 +251,18 @@ impl Hba {
         mut room: Vec<u8>,
         memory: &mut M,
     ) -> Result<Outcome, AllocError>
-        requires near { place.at < 2 ^ 40 }
+        requires near { place.at < 2 ^ 65 }
         requires kind { slice_index fis.now 0 ≡ h2d_type }
         requires read { header ≡ h2d_at fis.now }
         requires long { length room.items ≡ payload_of self.old.drive.tper.store.config fis.now }
         ensures done { IfOk result (λ r. TurnsAs M.does (λ o a. Executes o a place tag fis.now)
             self.old memory.old self.new memory.new r.done (IsHeard r.heard)) }
         ensures err { OnErr result (self.new ≡ self.old) }
-        ensures kept { OnErr result (OnlyReads M.does memory.old memory.new) }
+        ensures kept { OnErr result (HasRead M.does self.old memory.old memory.new) }
     {
         let at = place.header.descriptors();
-        let brought = match bring(memory, at, place.header.entries, &mut room) {
+        let width = self.width();
+        let brought = match bring(memory, width, at, place.header.entries, &mut room) {
             Ok(brought) => brought,
             Err(miss) => return Ok(self.miss(Some(tag), miss)),
         };
@@ -262,7 +272,7 @@ impl Hba {
         let gift = self.gift(lent, answer.bytes.as_slice());
         let told = by_blocks(answer.fises(), payload.len() + gift.given.len());
         let fises = told.as_slice();
-        let delivered = deliver(memory, place, brought, fises, &gift);
+        let delivered = deliver(memory, width, place, brought, fises, &gift);
         self.note_fetch(tag);
         let done = self.show(tag, fises, delivered);
         self.give_back(answer.bytes);
@@ -283,12 +293,12 @@ impl Hba {
         fis: &[u8; H2D_LENGTH],
         memory: &mut M,
     ) -> Result<Outcome, AllocError>
-        requires near { place.at < 2 ^ 40 }
+        requires near { place.at < 2 ^ 65 }
         requires kind { slice_index fis.now 0 ≡ h2d_type }
         ensures done { IfOk result (λ r. TurnsAs M.does (λ o a. Executes o a place tag fis.now)
             self.old memory.old self.new memory.new r.done (IsHeard r.heard)) }
         ensures err { OnErr result (self.new ≡ self.old) }
-        ensures kept { OnErr result (OnlyReads M.does memory.old memory.new) }
+        ensures kept { OnErr result (HasRead M.does self.old memory.old memory.new) }
     {
         let h = RegH2d::read(fis);
         let len = self.drive.payload_len_of(fis, &h);
@@ -302,13 +312,14 @@ impl Hba {
         ensures done { IfOk result (λ r. TurnsAs M.does (λ o a. Fetches o a tag)
             self.old memory.old self.new memory.new r.done (IsHeard r.heard)) }
         ensures err { OnErr result (self.new ≡ self.old) }
-        ensures kept { OnErr result (OnlyReads M.does memory.old memory.new) }
+        ensures kept { OnErr result (HasRead M.does self.old memory.old memory.new) }
     {
-        let header = match header_by(read_array(memory, self.header_at(tag))) {
+        let width = self.width();
+        let header = match header_by(width, read_array(memory, width, self.header_at(tag))) {
             Ok(header) => header,
             Err(miss) => return Ok(self.miss(Some(tag), miss)),
         };
-        let Some(fis) = read_array(memory, u64::from(header.table)) else {
+        let Some(fis) = read_array(memory, width, u128::from(header.table)) else {
             return Ok(self.miss(Some(tag), Miss::Table));
         };
         if !is_command(&fis) {
@@ -327,7 +338,7 @@ impl Hba {
         room: &mut [u8],
         memory: &mut M,
     ) -> Result<Outcome, AllocError>
-        requires near { place.at < 2 ^ 40 }
+        requires near { place.at < 2 ^ 65 }
         requires long { length room.old ≡ len }
         requires asked { len ≡ expected (held_at self.old.drive.queue tag) }
         requires held { is_some (held_at self.old.drive.queue tag) ≡ true }
@@ -335,17 +346,18 @@ impl Hba {
             (λ o a. ServesSo o a place len None (Complete tag) (CompletedTag tag))
             self.old memory.old self.new memory.new r.done (IsHeard r.heard)) }
         ensures err { OnErr result (self.new ≡ self.old) }
-        ensures kept { OnErr result (OnlyReads M.does memory.old memory.new) }
+        ensures kept { OnErr result (HasRead M.does self.old memory.old memory.new) }
     {
         let at = place.header.descriptors();
-        let brought = match gather(memory, at, place.header.entries, room) {
+        let width = self.width();
+        let brought = match gather(memory, width, at, place.header.entries, room) {
             Ok(brought) => brought,
             Err(miss) => return Ok(self.miss(None, miss)),
         };
         let completed = self.finish(tag, room)?;
         let told = completed.fises();
         let (fises, bytes) = (told.as_slice(), completed.bytes.as_slice());
-        let delivered = deliver(memory, place, brought, fises, &bytes);
+        let delivered = deliver(memory, width, place, brought, fises, &bytes);
         let done = self.show(tag, fises, delivered);
         self.give_back(completed.bytes);
         Ok(Outcome { done, heard: None })
@@ -359,14 +371,14 @@ impl Hba {
         len: usize,
         memory: &mut M,
     ) -> Result<Outcome, AllocError>
-        requires near { place.at < 2 ^ 40 }
+        requires near { place.at < 2 ^ 65 }
         requires asked { len ≡ expected (held_at self.old.drive.queue tag) }
         requires held { is_some (held_at self.old.drive.queue tag) ≡ true }
         ensures done { IfOk result (λ r. TurnsAs M.does
             (λ o a. ServesSo o a place len None (Complete tag) (CompletedTag tag))
             self.old memory.old self.new memory.new r.done (IsHeard r.heard)) }
         ensures err { OnErr result (self.new ≡ self.old) }
-        ensures kept { OnErr result (OnlyReads M.does memory.old memory.new) }
+        ensures kept { OnErr result (HasRead M.does self.old memory.old memory.new) }
     {
         let mut room = self.take_room(len)?;
         let outcome = self.end_in(tag, place, len, &mut room[..len], memory);
@@ -381,9 +393,10 @@ impl Hba {
             (λ o a. Completes o a tag (expected (held_at self.old.drive.queue tag)))
             self.old memory.old self.new memory.new r.done (IsHeard r.heard)) }
         ensures err { OnErr result (self.new ≡ self.old) }
-        ensures kept { OnErr result (OnlyReads M.does memory.old memory.new) }
+        ensures kept { OnErr result (HasRead M.does self.old memory.old memory.new) }
     {
-        let header = match header_by(read_array(memory, self.header_at(tag))) {
+        let width = self.width();
+        let header = match header_by(width, read_array(memory, width, self.header_at(tag))) {
             Ok(header) => header,
             Err(miss) => return Ok(self.miss(None, miss)),
         };
@@ -398,7 +411,7 @@ impl Hba {
             result.done (IsHeard result.heard) }
     {
         let to = self.received_at();
-        let _ = post_all(memory, to, &[signature_fis()]);
+        let _ = post_all(memory, self.width(), to, &[signature_fis()]);
         self.note_signature();
         Outcome {
             done: Done::Posted,
@@ -418,7 +431,7 @@ impl Hba {
             self.old memory.old self.new memory.new r.done (IsHeard r.heard)) }
         ensures refused { OnErr result (takes_memory work.now ≡ true) }
         ensures err { OnErr result (self.new ≡ self.old) }
-        ensures kept { OnErr result (OnlyReads M.does memory.old memory.new) }
+        ensures kept { OnErr result (HasRead M.does self.old memory.old memory.new) }
     {
         match *work {
             Work::Signature => Ok(self.sign(memory)),

@@ -9,6 +9,7 @@ ghost use Rattle.hba.specs.History.{act_count};
 
 use crate::registers::Registers;
 use drive::{Drive, ResetKind};
+use host_memory::AddressWidth;
 use std::alloc::{AllocError, Global};
 use std::marker::Model;
 
@@ -66,17 +67,29 @@ fn count_if(acts: bool, count: u64) -> u64
 impl Hba {
     ghost use Rattle.std.specs.Prelude.{[]};
     ghost use Rattle.hba.specs.Registers.{word_at, line};
+    ghost use Rattle.host_memory.specs.declared.width.AddressWidth.TheVariants as widths;
     ghost use Rattle.hba.specs.History.{Opened, Operation, Wrote, Powered, AgreesHba, Adds, acts_of, regs_of, act_count};
 
-    /// An HBA after its reset, over a drive that is new, or that has done acts before: it counts those from now on.
+    /// An HBA after its reset, over a drive that is new, or that has done acts before: it counts those from now on. Its addresses
+    /// are below 4 GiB.
     pub fn new(alloc: Global, drive: Drive) -> Hba
-        ensures { (o : Opened) → Agrees drive o.origin o.earlier → AgreesHba result o [] }
+        ensures { (o : Opened) → o.width ≡ widths.Bits32 → Agrees drive o.origin o.earlier
+            → AgreesHba result o [] }
+    {
+        let hba = Hba::with_addresses(alloc, drive, AddressWidth::Bits32);
+        hba
+    }
+
+    /// The same, whose addresses have so many bits: CAP.S64A tells it.
+    pub fn with_addresses(alloc: Global, drive: Drive, width: AddressWidth) -> Hba
+        ensures { (o : Opened) → o.width ≡ width → Agrees drive o.origin o.earlier
+            → AgreesHba result o [] }
     {
         Hba {
             alloc,
             drive,
             acts: 0,
-            registers: Registers::new(),
+            registers: Registers::new(width),
             room: Vec::new(alloc),
         }
     }
@@ -147,6 +160,6 @@ impl Hba {
     {
         self.drive.reset(ResetKind::Power);
         self.acts = one_more(self.acts);
-        self.registers = Registers::new();
+        self.registers = Registers::new(self.registers.width());
     }
 }

@@ -1,6 +1,7 @@
 //! What follows from the definitions alone.
 
-ghost use Rattle.hba.specs.AccessTypes.{RowsLaw, generic_rows, place_rows, command_rows, state_rows, UnreachedRegistersLaw, FollowedLaw, WrittenStartLaw};
+ghost use Rattle.hba.specs.AddressLaws.{WidthLaw, UppersLaw, PlacesLaw};
+ghost use Rattle.hba.specs.AccessTypes.{UpperRowsLaw, RowsLaw, generic_rows, place_rows, command_rows, state_rows, UnreachedRegistersLaw, FollowedLaw, WrittenStartLaw};
 ghost use Rattle.hba.specs.Blocks.{BlocksLaw, read_setup, write_setup};
 ghost use Rattle.hba.specs.BitLaws.{RunningLaw, IssuedLaw, QueuedLaw, RaisedLaw, ErrorsLaw, ChangesLaw, SignatureLaw};
 ghost use Rattle.hba.specs.Laws.{HostFailureLaw, HostDenialLaw, ActiveLaw, CurrentLaw};
@@ -72,7 +73,7 @@ pub fn laws_of_writes()
 
 /// Laws of the access types, over any registers and any written 32-bit word (AHCI 1.3.1, section 3).
 ///
-/// `generic`, `places`, `command`, `state`: behind a write each bit of its register reads what the bit's type says: RO bits
+/// `generic`, `places`, `upper`, `command`, `state`: behind a write each bit of its register reads what the bit's type says: RO bits
 /// stay, RW bits are as written, a written 1 clears an RWC bit, and sets an RW1 bit while ST is 1; reserved bits read 0. So
 /// it is but for a written GHC.HR, and for IS while PxIS asks. `unreached`: each other register stays, but for IS and for
 /// those that PxCMD, PxSCTL and PxSERR reach. `follows`: CR, FR, PCS and PRCS read as ST, FRE, DIAG.X and DIAG.N. `start`:
@@ -80,6 +81,7 @@ pub fn laws_of_writes()
 pub fn laws_of_access()
     ensures generic { RowsLaw generic_rows }
     ensures places { RowsLaw place_rows }
+    ensures upper { UpperRowsLaw }
     ensures command { RowsLaw command_rows }
     ensures state { RowsLaw state_rows }
     ensures unreached { UnreachedRegistersLaw }
@@ -118,4 +120,15 @@ pub fn laws_of_orders()
     ensures completed { CompletionOrder }
     ensures failed { ErrorOrder }
     ensures arrived { ArrivalOrder }
+{}
+
+/// Laws of addresses, over every drive that an HBA is opened over, and every list of operations.
+///
+/// `width`: an HBA has one width of addresses, and CAP.S64A tells it. `uppers`: PxCLBU and PxFBU read as they were written last
+/// since power on, also behind GHC.HR, where addresses have 64 bits, and else 0. `places`: the headers and the FISes stand where
+/// a driver reads that, by both halves.
+pub fn laws_of_addresses()
+    ensures width { WidthLaw }
+    ensures uppers { UppersLaw }
+    ensures places { PlacesLaw }
 {}

@@ -1,13 +1,19 @@
 //! The registers, as the host reads and writes them (AHCI 1.3.1, section 3).
 
 ghost use Rattle.std.specs.Prelude.{◌≡◌, ◌≤◌, ◌+◌, ◌*◌, ℕ};
-ghost use Rattle.hba.specs.Registers.{fresh_port, is_up, speed_by, link_word};
+ghost use Rattle.hba.specs.Registers.{capabilities, upper_written, fresh_port, is_up, speed_by, link_word};
 
 use fis::Tag;
 use hba_regs::{PortRegs, PxIs, Register};
+use host_memory::AddressWidth;
 
-/// CAP.
+/// CAP, where addresses are below 4 GiB, and with S64A.
 const CAPABILITIES: u32 = 0x4124_9f00;
+
+const WIDE_CAPABILITIES: u32 = 0xc124_9f00;
+
+/// What a 1 in the upper half of an address counts.
+const UPPER: u64 = 0x1_0000_0000;
 
 /// GHC.HR, IE and AE.
 const RESET: u32 = 0x1;
@@ -94,7 +100,12 @@ const PX_CI: u32 = 0x38;
 /// The registers of the HBA and of its port.
 #[derive(Drop)]
 pub struct Registers {
+    /// How many bits addresses have: CAP.S64A.
+    pub(crate) width: AddressWidth,
     pub(crate) port: PortRegs,
+    /// PxCLBU and PxFBU.
+    pub(crate) list_upper: u32,
+    pub(crate) fis_upper: u32,
     /// GHC.IE.
     pub(crate) interrupts_enabled: bool,
     /// IS.IPS of the port.
@@ -117,6 +128,26 @@ pub struct Registers {
     pub(crate) speed: u8,
     /// The device's SRST is set.
     pub(crate) in_reset: bool,
+}
+
+/// CAP.
+fn capabilities(width: AddressWidth) -> u32
+    ensures { result ≡ capabilities width }
+{
+    match width {
+        AddressWidth::Bits32 => CAPABILITIES,
+        AddressWidth::Bits64 => WIDE_CAPABILITIES,
+    }
+}
+
+/// The upper half of an address behind a write.
+fn upper_written(width: AddressWidth, before: u32, value: u32) -> u32
+    ensures { result ≡ upper_written width before value }
+{
+    match width {
+        AddressWidth::Bits32 => before,
+        AddressWidth::Bits64 => value,
+    }
 }
 
 /// Whether the link is up, by PxSCTL.
@@ -163,14 +194,18 @@ impl Registers {
     ghost use Rattle.hba_regs.specs.Registers.{register_at, word_at as port_word_at, written_at as port_written_at};
     ghost use Rattle.hba_regs.specs.declared.register.Register.TheVariants as registers;
     ghost use Rattle.hba.specs.Engine.{fises_at};
+    ghost use Rattle.host_memory.specs.Memory.{upper_half};
     ghost use Rattle.hba.specs.Registers.{reset_registers, word_at, generic_word, port_word, port_word_of, interrupts, asks, noted, line, overridden, optioned, stopped_if, lost_if, found_if, goes_down, comes_up, port_written, port_written_of, after_hba_reset, generic_written, written_at, write_resets};
 
     /// After power on: the port is stopped, and the link has come up.
-    pub fn new() -> Registers
-        ensures { result ≡ reset_registers }
+    pub fn new(width: AddressWidth) -> Registers
+        ensures { result ≡ reset_registers width }
     {
         Registers {
+            width,
             port: fresh_port(),
+            list_upper: 0,
+            fis_upper: 0,
             interrupts_enabled: false,
             is_raised: false,
             is_signed: false,
@@ -190,7 +225,10 @@ impl Registers {
         ensures { result ≡ self.now }
     {
         Registers {
+            width: self.width,
             port: self.port.copy(),
+            list_upper: self.list_upper,
+            fis_upper: self.fis_upper,
             interrupts_enabled: self.interrupts_enabled,
             is_raised: self.is_raised,
             is_signed: self.is_signed,
@@ -212,11 +250,25 @@ impl Registers {
         self.port.read(offset).unwrap_or(0)
     }
 
-    /// PxCLB.
-    pub(crate) fn list_base(&self) -> u32
-        ensures { result ≡ self.now.port.list_base }
+    /// How many bits addresses have.
+    pub(crate) fn width(&self) -> AddressWidth
+        ensures { result ≡ self.now.width }
     {
-        self.kept_word(PX_CLB)
+        self.width
+    }
+
+    /// PxCLB and PxCLBU.
+    pub(crate) fn list_base(&self) -> u64
+        ensures { result ≡ self.now.port.list_base + upper_half self.now.list_upper }
+    {
+        u64::from(self.kept_word(PX_CLB)) + UPPER * u64::from(self.list_upper)
+    }
+
+    /// PxFB and PxFBU.
+    fn fis_base(&self) -> u64
+        ensures { result ≡ self.now.port.fis_base + upper_half self.now.fis_upper }
+    {
+        u64::from(self.kept_word(PX_FB)) + UPPER * u64::from(self.fis_upper)
     }
 
     /// Whether a bit of PxCMD is set.
@@ -234,12 +286,12 @@ impl Registers {
         self.kept_word(PX_CMD) & RECEIVE == RECEIVE
     }
 
-    /// Where received FISes go: at PxFB, while FRE is set.
-    pub(crate) fn received_at(&self) -> Option<u32>
+    /// Where received FISes go: at PxFB and PxFBU, while FRE is set.
+    pub(crate) fn received_at(&self) -> Option<u64>
         ensures { result ≡ fises_at self.now }
     {
         if self.is_receiving() {
-            Some(self.kept_word(PX_FB))
+            Some(self.fis_base())
         } else {
             None
         }
@@ -342,6 +394,8 @@ impl Registers {
         ensures { result ≡ port_word_of self.now (register_at offset) }
     {
         match Register::at(offset) {
+            Some(Register::ListBaseUpper) => self.list_upper,
+            Some(Register::FisBaseUpper) => self.fis_upper,
             Some(Register::InterruptStatus) => self.interrupts(),
             Some(Register::Command) => self.command(),
             Some(Register::Signature) if self.is_signed => SIGNATURE,
@@ -356,7 +410,7 @@ impl Registers {
         ensures { result ≡ generic_word self.now offset }
     {
         match offset {
-            0x00 => CAPABILITIES,
+            0x00 => capabilities(self.width),
             0x04 => AHCI + ENABLE * u32::from(self.interrupts_enabled),
             0x08 => u32::from(self.is_raised),
             0x0c => 1,
@@ -470,6 +524,18 @@ impl Registers {
         !is_up(self.kept_word(PX_SCTL)) && is_up(value)
     }
 
+    fn write_list_upper(&mut self, value: u32)
+        ensures { self.new ≡ port_written self.old registers.ListBaseUpper value }
+    {
+        self.list_upper = upper_written(self.width, self.list_upper, value);
+    }
+
+    fn write_fis_upper(&mut self, value: u32)
+        ensures { self.new ≡ port_written self.old registers.FisBaseUpper value }
+    {
+        self.fis_upper = upper_written(self.width, self.fis_upper, value);
+    }
+
     fn write_command(&mut self, value: u32)
         ensures { self.new ≡ port_written self.old registers.Command value }
     {
@@ -500,6 +566,8 @@ impl Registers {
         ensures { self.new ≡ port_written_of self.old (register_at offset) value }
     {
         match Register::at(offset) {
+            Some(Register::ListBaseUpper) => self.write_list_upper(value),
+            Some(Register::FisBaseUpper) => self.write_fis_upper(value),
             Some(Register::InterruptEnable) => self.keep(offset, value & ENABLED),
             Some(Register::Command) => self.write_command(value),
             Some(Register::SataControl) => self.write_control(value),
@@ -508,14 +576,17 @@ impl Registers {
         }
     }
 
-    /// A reset of the HBA: PxCLB and PxFB stay (AHCI 1.3.1, 10.4.3).
+    /// A reset of the HBA: PxCLB and PxFB stay, with their upper halves (AHCI 1.3.1, 10.4.3).
     fn restart(&mut self)
         ensures { self.new ≡ after_hba_reset self.old }
     {
         let (list_base, fis_base) = (self.kept_word(PX_CLB), self.kept_word(PX_FB));
-        *self = Registers::new();
+        let (list_upper, fis_upper) = (self.list_upper, self.fis_upper);
+        *self = Registers::new(self.width);
         self.keep(PX_CLB, list_base);
         self.keep(PX_FB, fis_base);
+        self.list_upper = list_upper;
+        self.fis_upper = fis_upper;
     }
 
     fn write_generic(&mut self, offset: u32, value: u32)

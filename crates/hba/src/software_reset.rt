@@ -2,7 +2,6 @@
 
 ghost use Rattle.std.specs.Prelude.{◌≡◌, ◌<◌, ◌^◌, OnErr, IfOk, None, slice_index, true, false};
 ghost use Rattle.fis.specs.Types.{h2d_type};
-ghost use Rattle.host_memory.specs.Access.{OnlyReads};
 ghost use Rattle.hba.specs.declared.work.Done.TheVariants as dones;
 
 use crate::engine::signature_fis;
@@ -72,7 +71,7 @@ impl Registers {
 
 impl Hba {
     ghost use Rattle.hba.specs.History.{Controlled, Asserted, Restarted, Unheard, Adds, IsHeard};
-    ghost use Rattle.hba.specs.Engine.{Controls, ControlsTo, HearsIf, TurnsAs};
+    ghost use Rattle.hba.specs.Engine.{HasRead, Controls, ControlsTo, HearsIf, TurnsAs};
     ghost use Rattle.hba.specs.declared.work.Done.TheVariants as dones;
 
     /// A FIS without a command, which leaves SRST clear, is done.
@@ -111,7 +110,7 @@ impl Hba {
             self.old memory.old self.new memory.new dones.Control (IsHeard None) }
     {
         let to = self.registers.received_at();
-        let _ = post_all(memory, to, &[signature_fis()]);
+        let _ = post_all(memory, self.width(), to, &[signature_fis()]);
         self.leave_reset(tag);
     }
 
@@ -151,13 +150,13 @@ impl Hba {
         place: Place,
         memory: &mut M,
     ) -> Result<Outcome, AllocError>
-        requires near { place.at < 2 ^ 40 }
+        requires near { place.at < 2 ^ 65 }
         requires kind { slice_index fis.now 0 ≡ h2d_type }
         ensures done { IfOk result (λ r. TurnsAs M.does
             (λ o a. HearsIf a.registers.in_reset o a place tag fis.now)
             self.old memory.old self.new memory.new r.done (IsHeard r.heard)) }
         ensures err { OnErr result (self.new ≡ self.old) }
-        ensures kept { OnErr result (OnlyReads M.does memory.old memory.new) }
+        ensures kept { OnErr result (HasRead M.does self.old memory.old memory.new) }
     {
         if self.registers.in_reset {
             self.stay_busy(tag);

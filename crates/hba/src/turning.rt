@@ -1,7 +1,6 @@
 //! The engine's turns: one piece of work after the other (AHCI 1.3.1, 5.3).
 
 ghost use Rattle.std.specs.Prelude.{◌≡◌, ◌<◌, ◌^◌, ◌-◌, ℕ, List, ◌∷◌, Option, OnOk, OnErr, IfOk, IfSome, IsErrOf, ◌↔◌, [], true, false, Some, None};
-ghost use Rattle.host_memory.specs.Access.{OnlyReads};
 
 use crate::hba::Hba;
 use crate::work::{HbaError, Heard, Turned, TurnedHeard, Work};
@@ -11,7 +10,7 @@ use std::alloc::AllocError;
 
 impl Hba {
     ghost use Rattle.hba.specs.History.{denial_heard};
-    ghost use Rattle.hba.specs.Engine.{TurnsTo, HearsTo, Runs, HasStopped};
+    ghost use Rattle.hba.specs.Engine.{HasRead, TurnsTo, HearsTo, Runs, HasStopped};
     ghost use Rattle.hba.specs.Ready.{is_ready_on, ready_on, picked, takes_memory, picks_memory};
 
     /// The engine does a piece of work that may be done.
@@ -25,7 +24,7 @@ impl Hba {
         ensures work { IfOk result (λ t. t.work ≡ work) }
         ensures refused { OnErr result (takes_memory work ≡ true) }
         ensures err { OnErr result (self.new ≡ self.old) }
-        ensures kept { OnErr result (OnlyReads M.does memory.old memory.new) }
+        ensures kept { OnErr result (HasRead M.does self.old memory.old memory.new) }
     {
         let outcome = self.act(&work, memory)?;
         Ok(TurnedHeard {
@@ -42,7 +41,7 @@ impl Hba {
         ensures work { IfOk result (λ t. t.work ≡ work) }
         ensures refused { OnErr result (takes_memory work ≡ true) }
         ensures err { OnErr result (self.new ≡ self.old) }
-        ensures kept { OnErr result (OnlyReads M.does memory.old memory.new) }
+        ensures kept { OnErr result (HasRead M.does self.old memory.old memory.new) }
     {
         let outcome = self.act(&work, memory)?;
         let denied = self.denial_in(outcome.heard);
@@ -78,7 +77,7 @@ impl Hba {
             ↔ (is_ready_on self.old work.now ≡ false) }
         ensures refused { IsErrOf result HbaError.OutOfMemory → takes_memory work.now ≡ true }
         ensures err { OnErr result (self.new ≡ self.old) }
-        ensures kept { OnErr result (OnlyReads M.does memory.old memory.new) }
+        ensures kept { OnErr result (HasRead M.does self.old memory.old memory.new) }
     {
         if !self.is_ready(work) {
             return Err(HbaError::NotReady);
@@ -110,7 +109,7 @@ impl Hba {
         ensures refused { OnErr result
             (picks_memory (picked choice (ready_on self.old)) ≡ true) }
         ensures err { OnErr result (self.new ≡ self.old) }
-        ensures kept { OnErr result (OnlyReads M.does memory.old memory.new) }
+        ensures kept { OnErr result (HasRead M.does self.old memory.old memory.new) }
     {
         let Some(work) = self.pick(choice) else {
             return Ok(None);
@@ -137,7 +136,7 @@ impl Hba {
         ensures picked { IfOk result (λ turned. IfSome turned (λ t.
             picked choice (ready_on self.old) ≡ Some t.work)) }
         ensures err { OnErr result (self.new ≡ self.old) }
-        ensures kept { OnErr result (OnlyReads M.does memory.old memory.new) }
+        ensures kept { OnErr result (HasRead M.does self.old memory.old memory.new) }
         ensures refused { OnErr result
             (picks_memory (picked choice (ready_on self.old)) ≡ true) }
     {

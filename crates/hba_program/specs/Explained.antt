@@ -12,7 +12,8 @@ use Rattle.sp_cells.specs.Resets.{power_cycle, hardware}
 use Rattle.reasons.specs.declared.explained.onset.Cause.{Cause}
 use Rattle.reasons.specs.declared.explained.onset.Cause.TheVariants.{ResetBy}
 use Rattle.hba.specs.declared.work.Heard.{Heard}
-use Rattle.hba.specs.History.{over_new, Opened, State, Operation, Wrote, Powered, AgreesHba, IsHeard, account, acts_of}
+use Rattle.host_memory.specs.declared.width.AddressWidth.{AddressWidth}
+use Rattle.hba.specs.History.{over_new_by, Opened, State, Operation, Wrote, Powered, AgreesHba, IsHeard, account, acts_of}
 
 abbrev pub source_at : ℕ → ℕ → Source
 source_at number client = record { line = number; client = client }
@@ -27,9 +28,10 @@ pub record ExplainsActs (source : Source) (o : Origin) (past : List Sourced) (ac
 -- an operation of a controller so, over a drive that had done no act, whatever operations it agreed with
 abbrev pub ExplainsSo : Source → KeptReasons → KeptReasons → State → Operation → List ℕ → Type 0
 ExplainsSo source old new hba operation reasons =
-    (o : Origin) (list : List Operation) (past : List Sourced) → AgreesHba hba (over_new o) list
-    → bare_acts past ≡ acts_of (over_new o) list → RecountsAll old o past
-    → ExplainsActs source o past (acts_of (over_new o) (operation ∷ list)) new reasons
+    (width : AddressWidth) (o : Origin) (list : List Operation) (past : List Sourced)
+    → AgreesHba hba (over_new_by width o) list
+    → bare_acts past ≡ acts_of (over_new_by width o) list → RecountsAll old o past
+    → ExplainsActs source o past (acts_of (over_new_by width o) (operation ∷ list)) new reasons
 
 -- the same, if reasons are told
 abbrev pub ExplainsOperation : Source → Option KeptReasons → Option KeptReasons → State → Operation

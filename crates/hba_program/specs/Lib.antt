@@ -8,6 +8,7 @@ pub mod Pipes
 pub mod Wires
 pub mod Openings
 pub mod Sayings
+pub mod Ways
 pub mod Explained
 pub mod Steps
 pub mod Waves

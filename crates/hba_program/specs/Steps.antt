@@ -6,7 +6,7 @@ use Rattle.shadow_mbr.specs.Stored.{sector_at}
 use Rattle.drive_scripts.specs.Kept.{KeptReasons}
 use Rattle.history.specs.Opening.{Origin}
 use Rattle.drive.specs.State.{DriveState, Agrees}
-use Rattle.hba.specs.History.{over_new, State, Operation, Wrote, Powered, Adds, AgreesHba, denial_heard}
+use Rattle.hba.specs.History.{over_new_by, State, Operation, Wrote, Powered, Adds, AgreesHba, denial_heard}
 use Rattle.hba.specs.Registers.{word_at, line}
 use Rattle.hba.specs.Ready.{ready_on, picked}
 use Rattle.hba.specs.Engine.{HearsTo}
@@ -25,6 +25,7 @@ use Rattle.hba_program.specs.Openings.{option_rows, OpensAs}
 use Rattle.hba_program.specs.Sayings.{DeniedCommand, work_tag, work_reply, work_text, denials_text, sector_line, kept_denial}
 use Rattle.hba_program.specs.Explained.{source_at, ExplainsOperation, StartsTelling}
 use Rattle.hba_program.specs.declared.hba_tool.session.Session.{Session}
+use Rattle.hba_program.specs.declared.hba_tool.way.Way.{Way}
 
 -- a controller, what is kept where reasons are told, the denials that were not told, and the pipe to its host
 pub record Stand (R W : Type 0) : Type 0 where
@@ -245,10 +246,10 @@ pub record DoesAll {R W : Type 0} (remaining : R → Option (List ℕ)) (content
 
 -- at the start: the whole input is left, nothing is said, and the controller is over this drive
 pub record StartsServing {R W : Type 0} (remaining : R → Option (List ℕ))
-    (contents : W → Option (List ℕ)) (explains : Bool) (drive : DriveState)
+    (contents : W → Option (List ℕ)) (way : Way) (drive : DriveState)
     (input written : Option (List ℕ)) (first : Stand R W) : Type 0 where
-  pub hba : (o : Origin) → Agrees drive o [] → AgreesHba first.hba (over_new o) []
-  pub kept : StartsTelling explains first.kept drive
+  pub hba : (o : Origin) → Agrees drive o [] → AgreesHba first.hba (over_new_by way.width o) []
+  pub kept : StartsTelling way.explains first.kept drive
   pub denials : first.denials ≡ []
   pub left : left_of remaining first.wire ≡ input
   pub unwritten : contents first.wire.output.now ≡ written
@@ -256,20 +257,20 @@ pub record StartsServing {R W : Type 0} (remaining : R → Option (List ℕ))
   pub complained : first.wire.has_complained ≡ false
   pub failure : first.wire.failure ≡ None
 
--- A host is served to the end of its lines, with reasons or without: `input` is what it said, `old` and `new` are what the
+-- A host is served to the end of its lines, in this way: `input` is what it said, `old` and `new` are what the
 -- writer held before and behind.
 pub record ServesHost {R W : Type 0} (remaining : R → Option (List ℕ))
-    (contents : W → Option (List ℕ)) (explains : Bool) (drive : DriveState)
+    (contents : W → Option (List ℕ)) (way : Way) (drive : DriveState)
     (input : Option (List ℕ)) (status : ℕ) (old new : Option (List ℕ)) : Type 0 where
   pub first : Stand R W
   pub last : Stand R W
-  pub starts : StartsServing remaining contents explains drive input old first
+  pub starts : StartsServing remaining contents way drive input old first
   pub does : DoesAll remaining contents status first last
   pub written : contents last.wire.output.now ≡ new
 
 -- the same by the controller of a drive that the configuration and the texts of ranges open
-abbrev pub ServesOpened : {R W : Type 0} → (R → Option (List ℕ)) → (W → Option (List ℕ)) → Bool
+abbrev pub ServesOpened : {R W : Type 0} → (R → Option (List ℕ)) → (W → Option (List ℕ)) → Way
     → Config → List (List ℕ) → Option (List ℕ) → ℕ → Option (List ℕ) → Option (List ℕ) → Type 0
-ServesOpened remaining contents explains config ranges input status old new =
+ServesOpened remaining contents way config ranges input status old new =
     (o : Origin) × (drive : DriveState) × OpensAs config (option_rows ranges) o
-    × Agrees drive o [] × ServesHost remaining contents explains drive input status old new
+    × Agrees drive o [] × ServesHost remaining contents way drive input status old new

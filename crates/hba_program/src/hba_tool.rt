@@ -5,8 +5,10 @@ mod explaining;
 mod opening;
 mod serving;
 mod session;
+mod way;
 
 pub use crate::hba_wire::WireError;
 pub use error::ServeError;
 pub use opening::{RangeFault, drive_with_ranges};
 pub use serving::serve;
+pub use way::Way;

@@ -1,5 +1,6 @@
 pub mod Accesses
-pub mod Windows
+pub mod OneWindow
+pub mod SeveralWindows
 pub mod Deliveries
 pub mod Orders
 mod Rows

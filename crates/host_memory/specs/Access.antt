@@ -1,6 +1,8 @@
--- What a controller asks of the host's memory, and what it is answered. Addresses are below 4 GiB
--- (AHCI 1.3.1, 3.1.1: CAP.S64A is 0).
+-- What a controller asks of the host's memory, and what it is answered. Addresses are below 4 GiB, or
+-- have 64 bits (AHCI 1.3.1, 3.1.1: CAP.S64A).
 use Rattle.std.specs.Prelude.{◌≡◌, ℕ, ◌+◌, Bool, true, false, not, nat_le, List, [], ◌∷◌, length, Option, Some, None, is_some}
+use Rattle.host_memory.specs.declared.width.AddressWidth.{AddressWidth}
+use Rattle.host_memory.specs.declared.width.AddressWidth.TheVariants as widths
 
 -- So many bytes are read at an address: the answer is their values, or that one of them is no memory.
 -- Bytes are written: they now stand there, or one of them would be no memory, and nothing is written.
@@ -8,9 +10,19 @@ pub data Access : Type 0 where
   Asked : (at n : ℕ) (answer : Option (List ℕ)) → Access
   Laid : (at : ℕ) (bytes : List ℕ) (is_done : Bool) → Access
 
--- The first address that none has.
+-- The first address that no byte has, in any memory: the sum of an address and a length has 64 bits.
 abbrev pub memory_end : ℕ
-memory_end = 0x100000000
+memory_end = 0xffffffffffffffff
+
+-- The first address that no byte has, by how many bits an address has.
+abbrev pub address_end : AddressWidth → ℕ
+address_end widths.Bits32 = 0x100000000
+address_end widths.Bits64 = memory_end
+
+-- How many bits an address has, by CAP.S64A.
+abbrev pub width_by : Bool → AddressWidth
+width_by false = widths.Bits32
+width_by true = widths.Bits64
 
 -- The address behind the bytes of an access.
 abbrev pub access_end : Access → ℕ
@@ -31,16 +43,18 @@ abbrev pub IsAccessIf : {M : Type 0} → Bool → (M → Access → M → Type 0
 IsAccessIf true does old access new = does old access new
 IsAccessIf false does old access new = (is_refused access ≡ true) × (new ≡ old)
 
--- An access, by what a memory does: what would end past 4 GiB is refused, and the memory is not asked.
-abbrev pub IsAccess : {M : Type 0} → (M → Access → M → Type 0) → M → Access → M → Type 0
-IsAccess does old access new =
-    IsAccessIf (nat_le (access_end access) memory_end) does old access new
+-- An access, by what a memory does: what would end past the last address is refused, and the memory is
+-- not asked.
+abbrev pub IsAccess : {M : Type 0} → AddressWidth → (M → Access → M → Type 0) → M → Access → M
+    → Type 0
+IsAccess width does old access new =
+    IsAccessIf (nat_le (access_end access) (address_end width)) does old access new
 
 -- Accesses, one after the other.
 abbrev pub Accessed : {M : Type 0} → (M → Access → M → Type 0) → M → List Access → M → Type 0
 Accessed does old [] new = new ≡ old
 Accessed {M} does old (access ∷ later) new =
-    (middle : M) × IsAccess does old access middle × Accessed does middle later new
+    (middle : M) × does old access middle × Accessed does middle later new
 
 -- Nothing is written.
 abbrev pub AreReads : List Access → Type 0

@@ -8,6 +8,8 @@ use Rattle.fis.specs.declared.any.Fis.TheVariants as kinds
 use Rattle.slots.specs.Layout.{descriptor_size, descriptors_at, received_at, received_place}
 use Rattle.slots.specs.Header.{fis_words, command_fis_words, entry_count, table_at, table_upper, table_alignment, little_endian_at}
 use Rattle.slots.specs.Table.{byte_count_field}
+use Rattle.host_memory.specs.declared.width.AddressWidth.{AddressWidth}
+use Rattle.host_memory.specs.declared.width.AddressWidth.TheVariants as widths
 use Rattle.host_memory.specs.Access.{Access, Asked, Laid}
 use Rattle.host_memory.specs.declared.hba_memory.miss.Miss.{Miss}
 use Rattle.host_memory.specs.declared.hba_memory.miss.Miss.TheVariants as misses
@@ -16,28 +18,38 @@ use Rattle.host_memory.specs.declared.hba_memory.reading.Moved.{Moved}
 use Rattle.host_memory.specs.declared.hba_memory.delivery.Arrival.{Arrival}
 use Rattle.host_memory.specs.declared.hba_memory.delivery.Place.{Place}
 
--- CFL is 16 at most (4.2.2), and the words that a command's FIS has at least (Serial ATA, Register FIS
--- to the device): what is shorter is none. CTBAU is 0, as CAP.S64A is.
-abbrev pub is_sound_header : List ℕ → Bool
-is_sound_header header =
-    nat_le command_fis_words (fis_words header) && nat_le (fis_words header) 16
-    && table_upper header == 0
+-- Whether an address has an upper half.
+abbrev pub has_upper : AddressWidth → Bool
+has_upper widths.Bits32 = false
+has_upper widths.Bits64 = true
 
--- CTBA is a multiple of 128 (4.2.2).
+-- An address by its two halves.
+abbrev pub upper_half : ℕ → ℕ
+upper_half upper = 0x100000000 * upper
+
+-- CFL is 16 at most (4.2.2), and the words that a command's FIS has at least (Serial ATA, Register FIS
+-- to the device): what is shorter is none. CTBAU is 0 where CAP.S64A is.
+abbrev pub is_sound_header : AddressWidth → List ℕ → Bool
+is_sound_header width header =
+    nat_le command_fis_words (fis_words header) && nat_le (fis_words header) 16
+    && (has_upper width || table_upper header == 0)
+
+-- CTBA, a multiple of 128, and CTBAU (4.2.2).
 abbrev pub command_table_of : List ℕ → ℕ
-command_table_of header = table_at header - table_at header % table_alignment
+command_table_of header =
+    table_at header - table_at header % table_alignment + upper_half (table_upper header)
 
 -- What the bytes of a header name.
-abbrev pub header_of : List ℕ → Result Header Miss
-header_of bytes =
-    if is_sound_header bytes
+abbrev pub header_of : AddressWidth → List ℕ → Result Header Miss
+header_of width bytes =
+    if is_sound_header width bytes
     then Ok (record { table = command_table_of bytes; entries = entry_count bytes })
     else Err misses.Table
 
 -- And what the answer of memory names.
-abbrev pub header_by : Option (List ℕ) → Result Header Miss
-header_by None = Err misses.List
-header_by (Some bytes) = header_of bytes
+abbrev pub header_by : AddressWidth → Option (List ℕ) → Result Header Miss
+header_by width None = Err misses.List
+header_by width (Some bytes) = header_of width bytes
 
 -- Where the descriptors stand.
 abbrev pub descriptors_of : Header → ℕ

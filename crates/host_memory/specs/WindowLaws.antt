@@ -1,7 +1,8 @@
 -- What accesses make of a window, and what they leave.
 use Rattle.std.specs.Prelude.{◌≡◌, ℕ, ◌-◌, List, [], ◌∷◌, if◌then◌else◌}
 use Rattle.host_memory.specs.declared.window.Window.{Window}
-use Rattle.host_memory.specs.Access.{Access, Asked, Laid, Accessed, AreReads}
+use Rattle.host_memory.specs.declared.width.AddressWidth.{AddressWidth}
+use Rattle.host_memory.specs.Access.{Access, Asked, Laid, IsAccess, Accessed, AreReads}
 use Rattle.host_memory.specs.Window.{overlaid, StandsSo}
 
 -- A window stays where it is; its bytes answer.
@@ -20,11 +21,13 @@ all_written base (Laid at others is_done ∷ later) bytes =
 -- A window's bytes are the old ones with exactly the writes that were done.
 abbrev pub WrittenLaw : Type 0
 WrittenLaw =
-    (old new : Window) (talk : List Access) → Accessed WindowDoes old talk new
+    (width : AddressWidth) (old new : Window) (talk : List Access)
+    → Accessed (IsAccess width WindowDoes) old talk new
     → new.bytes.now ≡ all_written old.base talk old.bytes.now
 
 -- Reads leave all as it is.
 abbrev pub ReadLaw : Type 0
 ReadLaw =
-    (old new : Window) (talk : List Access) → AreReads talk → Accessed WindowDoes old talk new
+    (width : AddressWidth) (old new : Window) (talk : List Access) → AreReads talk
+    → Accessed (IsAccess width WindowDoes) old talk new
     → new.bytes.now ≡ old.bytes.now

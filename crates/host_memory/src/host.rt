@@ -33,8 +33,9 @@ impl Source for &[u8] {
     }
 }
 
-/// A host's memory, whose bytes have addresses below 4 GiB. It may be a window of bytes, or somebody behind a pipe who
-/// answers each access as he likes: what an access is answered, and what memory is left, is the type's own to say.
+/// A host's memory. It may be a window of bytes, or somebody behind a pipe who answers each access as he likes: what an access
+/// is answered, and what memory is left, is the type's own to say. An address has 64 bits, and so has the one behind the last
+/// byte of an access.
 pub trait HostMemory {
     /// An access, between the memory before it and the memory after it.
     ghost does: { Self → Access → Self → Type 0 };

@@ -4,14 +4,19 @@ ghost use Rattle.host_memory.specs.DeliveryLaws.{DeliveredLaw};
 ghost use Rattle.host_memory.specs.HeaderLaws.{HeaderLaw};
 ghost use Rattle.host_memory.specs.OrderLaws.{GatherOrder, ScatterOrder};
 ghost use Rattle.host_memory.specs.WindowLaws.{WrittenLaw, ReadLaw};
+ghost use Rattle.host_memory.specs.Windows.{WindowsReadLaw, OneWindowLaw, OthersLaw};
 
 /// Laws of windows, over every list of accesses.
 ///
 /// `written`: a window's bytes are the old ones with exactly the writes that were done, in their order. `read`: reads
-/// leave them as they are.
+/// leave them as they are. Of several windows: `all_read`: reads leave all as they are; `one`: one alone does as it does by
+/// itself; `others`: a write leaves all windows that do not have its bytes as they are.
 pub fn laws_of_windows()
     ensures written { WrittenLaw }
     ensures read { ReadLaw }
+    ensures all_read { WindowsReadLaw }
+    ensures one { OneWindowLaw }
+    ensures others { OthersLaw }
 {}
 
 /// The law of command headers: CFL, PRDTL, CTBA and CTBAU say what a header names, and no other field, W and P among them.

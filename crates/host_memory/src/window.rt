@@ -1,46 +1,46 @@
 //! A host's memory of bytes that stand at a base address.
 
 ghost use Rattle.std.specs.Prelude.{◌≡◌, ◌≤◌, ◌+◌, ◌-◌, ◌^◌, ◌<◌, length, slice_range, true};
-ghost use Rattle.host_memory.specs.Access.{read_answer};
+ghost use Rattle.host_memory.specs.Access.{read_answer, memory_end};
 ghost use Rattle.host_memory.specs.Window.{is_held, bytes_held_at, bytes_laid};
 
 use crate::host::{HostMemory, Source};
 
-/// Bytes of the host's memory, from a base address on. Those that stand past 4 GiB are never reached.
+/// Bytes of the host's memory, from a base address on. Those that stand past the last address are never reached.
+#[repr(C)]
 #[derive(Drop)]
 pub struct Window<'a> {
-    pub base: u32,
+    pub base: u64,
     pub bytes: &'a mut [u8],
 }
 
 /// Whether so many bytes at an address stand among these.
-fn is_held(base: u32, bytes: &[u8], at: u64, len: usize) -> bool
-    requires { at + len ≤ 0x100000000 }
+fn is_held(base: u64, bytes: &[u8], at: u64, len: usize) -> bool
+    requires { at + len ≤ memory_end }
     ensures { result ≡ is_held base bytes.now at len }
 {
-    let base = u64::from(base);
-    base <= at && at + len as u64 <= base + bytes.len() as u64
+    base <= at && len <= bytes.len() && at - base <= (bytes.len() - len) as u64
 }
 
 /// Fills with the bytes that stand at an address of the host's memory, of which `bytes` are those from `base` on: byte
 /// `at - base` and those behind it. `false` where one of them stands before `base` or behind the last.
 ///
-/// A caller sees to it that they end at 4 GiB at most: `at + into.len()` is at most 2^32.
-pub fn copy_from(base: u32, bytes: &[u8], at: u64, into: &mut [u8]) -> bool
-    requires { at + length into.old ≤ 0x100000000 }
+/// A caller sees to it that `at + into.len()` has 64 bits.
+pub fn copy_from(base: u64, bytes: &[u8], at: u64, into: &mut [u8]) -> bool
+    requires { at + length into.old ≤ memory_end }
     ensures { read_answer result into.new ≡ bytes_held_at base bytes.now at (length into.old) }
 {
     if !is_held(base, bytes, at, into.len()) {
         return false;
     }
-    let place = (at - u64::from(base)) as usize;
+    let place = (at - base) as usize;
     into.copy_from_slice(&bytes[place..place + into.len()]);
     true
 }
 
 /// [`copy_to`] of the bytes of a source, those from a place up to another.
 pub fn copy_source<S: Source>(
-    base: u32,
+    base: u64,
     bytes: &mut [u8],
     at: u64,
     source: &S,
@@ -49,7 +49,7 @@ pub fn copy_source<S: Source>(
 ) -> bool
     requires order { from ≤ to }
     requires there { to ≤ length (S.bytes source.now) }
-    requires low { at + (to - from) ≤ 0x100000000 }
+    requires low { at + (to - from) ≤ memory_end }
     ensures done { result ≡ is_held base bytes.old at (to - from) }
     ensures bytes { bytes.new
         ≡ bytes_laid base bytes.old at (slice_range (S.bytes source.now) from to) }
@@ -58,7 +58,7 @@ pub fn copy_source<S: Source>(
     if !is_held(base, bytes, at, len) {
         return false;
     }
-    let place = (at - u64::from(base)) as usize;
+    let place = (at - base) as usize;
     source.fill(from, &mut bytes[place..place + len]);
     true
 }
@@ -67,27 +67,27 @@ pub fn copy_source<S: Source>(
 /// `at - base` and those behind it. `false` where one of these stands before `base` or behind the last; then nothing is
 /// written.
 ///
-/// A caller sees to it that they end at 4 GiB at most: `at + others.len()` is at most 2^32.
-pub fn copy_to(base: u32, bytes: &mut [u8], at: u64, others: &[u8]) -> bool
-    requires { at + length others.now ≤ 0x100000000 }
+/// A caller sees to it that `at + others.len()` has 64 bits.
+pub fn copy_to(base: u64, bytes: &mut [u8], at: u64, others: &[u8]) -> bool
+    requires { at + length others.now ≤ memory_end }
     ensures done { result ≡ is_held base bytes.old at (length others.now) }
     ensures bytes { bytes.new ≡ bytes_laid base bytes.old at others.now }
 {
     if !is_held(base, bytes, at, others.len()) {
         return false;
     }
-    let place = (at - u64::from(base)) as usize;
+    let place = (at - base) as usize;
     bytes[place..place + others.len()].copy_from_slice(others);
     true
 }
 
 impl<'a> Window<'a> {
     ghost use Rattle.std.specs.Prelude.{◌≡◌, ◌≤◌, ◌+◌, length};
-    ghost use Rattle.host_memory.specs.Access.{read_answer};
-    ghost use Rattle.host_memory.specs.Window.{bytes_held_at};
+    ghost use Rattle.host_memory.specs.Access.{read_answer, memory_end};
+    ghost use Rattle.host_memory.specs.Window.{is_held, bytes_held_at};
 
     /// Bytes that stand at a base address.
-    pub fn new(base: u32, bytes: &'a mut [u8]) -> Window<'a>
+    pub fn new(base: u64, bytes: &'a mut [u8]) -> Window<'a>
         ensures same_reference { result.bytes.ghost_name ≡ bytes.entry.ghost_name }
         ensures base { result.base ≡ base }
         ensures bytes { result.bytes.now ≡ bytes.old }
@@ -95,8 +95,16 @@ impl<'a> Window<'a> {
         Window { base, bytes }
     }
 
-    fn fill(&self, at: u64, into: &mut [u8]) -> bool
-        requires { at + length into.old ≤ 0x100000000 }
+    /// Whether the window has so many bytes at an address.
+    pub(crate) fn has(&self, at: u64, len: usize) -> bool
+        requires { at + len ≤ memory_end }
+        ensures { result ≡ is_held self.now.base self.now.bytes.now at len }
+    {
+        is_held(self.base, self.bytes, at, len)
+    }
+
+    pub(crate) fn fill(&self, at: u64, into: &mut [u8]) -> bool
+        requires { at + length into.old ≤ memory_end }
         ensures { read_answer result into.new
             ≡ bytes_held_at self.now.base self.now.bytes.now at (length into.old) }
     {

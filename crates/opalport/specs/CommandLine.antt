@@ -8,6 +8,8 @@ use Rattle.tool.specs.OptionTexts.{DriveText, drive_text}
 use Rattle.tcg_calls.specs.declared.named_tokens.naming.Naming.{Naming}
 use Rattle.tcg_calls.specs.TokenTexts.{naming_of}
 use Rattle.opalport.specs.declared.command_line.Request.{Request}
+use Rattle.hba_program.specs.Ways.{way_by}
+use Rattle.hba_program.specs.declared.hba_tool.way.Way.{Way}
 use Rattle.opalport.specs.declared.command_line.Request.TheVariants.{Run, Draw, Level0, Threads, Tokens, Decode, Hba, Explore, Judge}
 
 -- `--name TEXT`, and the text that stands for it where it is left out
@@ -61,12 +63,15 @@ repeated_rule name = record (new_rule name) {
   action = Some Append;
 }
 
--- `hba`, with the options of a drive, ranges, reasons or not, and where its waveforms are written
+-- `hba`, with the options of a drive, ranges, reasons or not, 64-bit addresses or not, and where its waveforms are
+-- written
 abbrev pub hba_line : App
 hba_line =
     with_rule
+    (with_rule
     (with_rule (with_rule (drive_line (codes "hba")) (repeated_rule (codes "range")))
     (flag_rule (codes "explain")))
+    (flag_rule (codes "s64a")))
     (free_rule (codes "vcd"))
 
 -- `threads`, with the options that say how many clients make how many rounds
@@ -158,7 +163,7 @@ pub data Wanted : Type 0 where
   threads : Text → Text → Wanted
   tokens : Text → Naming → Wanted
   decode : Text → Text → Wanted
-  hba : Bool → DriveText → List Text → Text → Wanted
+  hba : Way → DriveText → List Text → Text → Wanted
   explore : DriveText → Text → Text → Text → Option Text → Bool → List Text → Wanted
   judge : DriveText → List Text → Bool → Bool → Wanted
 
@@ -171,7 +176,7 @@ wanted_by (Threads load) = threads load.clients.now load.rounds.now
 wanted_by (Tokens tokens_asked) = tokens tokens_asked.hex.now tokens_asked.naming
 wanted_by (Decode texts) = decode texts.kind.now texts.hex.now
 wanted_by (Hba texts) =
-    hba texts.explains (drive_text texts.drive) (map (λ s. s.now) texts.ranges.items) texts.vcd.now
+    hba texts.way (drive_text texts.drive) (map (λ s. s.now) texts.ranges.items) texts.vcd.now
 wanted_by (Explore texts) =
     explore (drive_text texts.drive) texts.steps.now texts.limit.now texts.find.now
     (option_map (λ s. s.now) texts.part) texts.merges (map (λ s. s.now) texts.files.items)
@@ -208,11 +213,15 @@ has_flag name rows = bytes_eq (text_of name rows) (codes "true")
 abbrev pub naming_in : List Row → Naming
 naming_in rows = naming_of (has_flag (codes "names") rows)
 
+-- how a host is served
+abbrev pub way_in : List Row → Way
+way_in rows = way_by (has_flag (codes "explain") rows) (has_flag (codes "s64a") rows)
+
 -- what it asks for that takes an option as often as it is wanted
 abbrev pub repeated_asked : Text → List Row → Option Wanted
 repeated_asked name rows =
     if bytes_eq name (codes "hba")
-    then Some (hba (has_flag (codes "explain") rows) (drive_in rows) (texts_in (codes "range") rows)
+    then Some (hba (way_in rows) (drive_in rows) (texts_in (codes "range") rows)
     (text_of (codes "vcd") rows))
     else if bytes_eq name (codes "judge")
     then Some (judge (drive_in rows) (texts_in (codes "freedom") rows)

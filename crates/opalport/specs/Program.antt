@@ -24,6 +24,7 @@ use Rattle.judged.specs.Judgements.{JudgesTranscript}
 use Rattle.judged.specs.declared.freedom.Freedom.{Freedom}
 use Rattle.hba_program.specs.Openings.{option_rows, IsFaultOf}
 use Rattle.hba_program.specs.Steps.{ServesOpened}
+use Rattle.hba_program.specs.declared.hba_tool.way.Way.{Way}
 use Rattle.hba_program.specs.declared.hba_tool.opening.RangeFault.{RangeFault}
 use Rattle.clap.specs.Words.{IsAmong, Kinds, Text, fault_of}
 use Rattle.clap.specs.declared.error.kind.ErrorKind.{ErrorKind}
@@ -143,20 +144,20 @@ TokensEnd hex naming status old new =
 abbrev pub RefusesRanges : Config → List Text → Type 0
 RefusesRanges config ranges = (fault : RangeFault) × IsFaultOf config (option_rows ranges) fault
 
--- the controller of the drive with these ranges serves the host, with reasons or without; where one of the ranges is
+-- the controller of the drive with these ranges serves the host, in this way; where one of the ranges is
 -- refused, the status is 2, and nothing is printed
-abbrev pub ControllerEnds : {R W : Type 0} → (R → Option (List ℕ)) → (W → Option (List ℕ)) → Bool
+abbrev pub ControllerEnds : {R W : Type 0} → (R → Option (List ℕ)) → (W → Option (List ℕ)) → Way
     → Config → List Text → Option (List ℕ) → ℕ → Option (List ℕ) → Option (List ℕ) → Type 0
-ControllerEnds remaining contents explains config ranges input status old new =
-    ServesOpened remaining contents explains config ranges input status old new
+ControllerEnds remaining contents way config ranges input status old new =
+    ServesOpened remaining contents way config ranges input status old new
     ⊎ (RefusesRanges config ranges × (status ≡ 2) × (new ≡ old))
 
 -- the same with the drive of the options; where they open no drive, the status is 2, and nothing is printed
-abbrev pub HbaEnds : {R W : Type 0} → (R → Option (List ℕ)) → (W → Option (List ℕ)) → Bool
+abbrev pub HbaEnds : {R W : Type 0} → (R → Option (List ℕ)) → (W → Option (List ℕ)) → Way
     → DriveText → List Text → Option (List ℕ) → ℕ → Option (List ℕ) → Option (List ℕ) → Type 0
-HbaEnds remaining contents explains texts ranges input status old new =
+HbaEnds remaining contents way texts ranges input status old new =
     ((config : Config) × WritesConfig texts config × IsOfDrive config
-    × ControllerEnds remaining contents explains config ranges input status old new)
+    × ControllerEnds remaining contents way config ranges input status old new)
     ⊎ ((WritesLimitedConfig texts → ⊥) × (status ≡ 2) × (new ≡ old))
 
 -- help and the version have status 0; any other fault of the words has status 2, and nothing is printed
@@ -182,8 +183,8 @@ Serves remaining contents (Some (tokens hex naming)) input status old new =
     TokensEnd hex naming status old new
 Serves remaining contents (Some (decode kind hex)) input status old new =
     DecodeEnds kind hex input status old new
-Serves remaining contents (Some (hba explains texts ranges vcd)) input status old new =
-    HbaEnds remaining contents explains texts ranges input status old new
+Serves remaining contents (Some (hba way texts ranges vcd)) input status old new =
+    HbaEnds remaining contents way texts ranges input status old new
 Serves remaining contents (Some (explore texts steps limit find part merges files)) input status
     old new =
     ExploreEnds texts steps limit find part merges files input status old new

@@ -3,13 +3,14 @@
 ghost use Rattle.std.specs.Prelude.{◌≡◌, IfOk, true, map, option_map, option_and_then, string_bytes, codes};
 ghost use Rattle.clap.specs.Words.{App, FailsBy, app_of, fault_of, first_of, found_of, new_app, rows_of, subcommand_rows_of, with_rule, with_subcommand};
 ghost use Rattle.tool.specs.OptionTexts.{drive_text};
-ghost use Rattle.opalport.specs.CommandLine.{top_line, option_rule, free_rule, required_rule, flag_rule, with_drive_rules, drive_line, drive_in, hba_line, explore_line, files_rule, judge_line, run_line, has_flag, repeated_rule, texts_in, optional_rule, threads_line, tokens_line, decode_line, opalport_line, text_of, naming_in, wanted_by, repeated_asked, asked_of, asked_by};
+ghost use Rattle.opalport.specs.CommandLine.{top_line, option_rule, free_rule, required_rule, flag_rule, with_drive_rules, drive_line, drive_in, hba_line, explore_line, files_rule, judge_line, run_line, has_flag, way_in, repeated_rule, texts_in, optional_rule, threads_line, tokens_line, decode_line, opalport_line, text_of, naming_in, wanted_by, repeated_asked, asked_of, asked_by};
 
 use crate::controller_help::LINES as CONTROLLER_LINES;
 use crate::decode_help::KINDS;
 use crate::explore_help::PARTS;
 use crate::judge_help::TRANSCRIPTS;
 use clap::{Arg, ArgAction, ArgMatches, Command, Error};
+use hba_program::hba_tool::Way;
 use std::alloc::{AllocError, Global};
 use tool::{DriveTexts, Naming};
 
@@ -35,7 +36,8 @@ pub struct LoadTexts<'a> {
 pub struct HbaTexts<'a> {
     pub drive: DriveTexts<'a>,
     pub ranges: Vec<&'a str>,
-    pub explains: bool,
+    /// How the host is served.
+    pub way: Way,
     /// Where the waveforms are written; empty where none are wanted.
     pub vcd: &'a str,
 }
@@ -109,6 +111,9 @@ pub enum Request<'a> {
     /// To judge what another drive answered to a script.
     Judge(JudgeTexts<'a>),
 }
+
+/// What `--s64a` does.
+const WIDE: &str = "Addresses have 64 bits, and CAP.S64A is 1";
 
 /// What `--explain` does.
 const EXPLAINED: &str = "Tells each refusal with its reason, and what would lift it";
@@ -391,6 +396,7 @@ fn hba_command<'a>(alloc: Global) -> Result<Command<'a>, AllocError>
     let c = drive_command(alloc, "hba", about, CONTROLLER_LINES)?;
     let c = with_repeated(alloc, c, "range", "ROW", row)?;
     let c = with_flag(c, alloc, "explain", EXPLAINED)?;
+    let c = with_flag(c, alloc, "s64a", WIDE)?;
     with_free_option(c, alloc, "vcd", "FILE", WAVED)
 }
 
@@ -620,8 +626,7 @@ fn hba_texts<'a>(alloc: Global, matches: &ArgMatches<'a>) -> Result<HbaTexts<'a>
         ≡ drive_in (rows_of (found_of matches.now))) }
     ensures ranges { IfOk result (λ texts. map (λ s. s.now) texts.ranges.items
         ≡ texts_in (codes "range") (rows_of (found_of matches.now))) }
-    ensures explains { IfOk result (λ texts. texts.explains
-        ≡ has_flag (codes "explain") (rows_of (found_of matches.now))) }
+    ensures way { IfOk result (λ texts. texts.way ≡ way_in (rows_of (found_of matches.now))) }
     ensures vcd { IfOk result (λ texts. texts.vcd.now
         ≡ text_of (codes "vcd") (rows_of (found_of matches.now))) }
 {
@@ -630,7 +635,7 @@ fn hba_texts<'a>(alloc: Global, matches: &ArgMatches<'a>) -> Result<HbaTexts<'a>
     Ok(HbaTexts {
         drive,
         ranges,
-        explains: has_flag(matches, "explain"),
+        way: Way::new(has_flag(matches, "explain"), has_flag(matches, "s64a")),
         vcd: text_of(matches, "vcd"),
     })
 }

@@ -6,7 +6,7 @@ ghost use Rattle.opalport.specs.Program.{ControllerEnds, HbaEnds};
 
 use crate::command_line::HbaTexts;
 use crate::error::ProgramError;
-use hba_program::hba_tool::{RangeFault, drive_with_ranges, serve};
+use hba_program::hba_tool::{RangeFault, Way, drive_with_ranges, serve};
 use hba_waves::Dump;
 use std::alloc::Global;
 use std::fs;
@@ -19,19 +19,19 @@ fn on_drive<R: Read + Drop, W: Write, E: Write, D: Write + Drop>(
     alloc: Global,
     options: &Options,
     ranges: &[&str],
-    explains: bool,
+    way: Way,
     dump: &mut Option<Dump<D>>,
     input: R,
     output: &mut W,
     faults: &mut E,
 ) -> Result<u8, ProgramError>
     ensures most { IfOk result (λ status. status ≤ 2) }
-    ensures ends { IfOk result (λ status. ControllerEnds R.remaining W.contents explains options.now
+    ensures ends { IfOk result (λ status. ControllerEnds R.remaining W.contents way options.now
         (map (λ s. s.now) ranges.now) (R.remaining input) status (W.contents output.old)
         (W.contents output.new)) }
 {
     match drive_with_ranges(alloc, options.config(), ranges) {
-        Ok(drive) => Ok(serve(alloc, input, output, drive, explains, dump)?),
+        Ok(drive) => Ok(serve(alloc, input, output, drive, way, dump)?),
         Err(RangeFault::OutOfMemory) => Err(ProgramError::Run(RunError::Memory)),
         Err(fault) => {
             writeln!(faults, "error: {fault}").map_err(|_| RunError::Write)?;
@@ -52,11 +52,11 @@ fn serve_on<F: Files, R: Read + Drop, W: Write, E: Write>(
     faults: &mut E,
 ) -> Result<u8, ProgramError>
     ensures most { IfOk result (λ status. status ≤ 2) }
-    ensures ends { IfOk result (λ status. ControllerEnds R.remaining W.contents texts.now.explains
+    ensures ends { IfOk result (λ status. ControllerEnds R.remaining W.contents texts.now.way
         options.now (map (λ s. s.now) texts.now.ranges.items) (R.remaining input) status
         (W.contents output.old) (W.contents output.new)) }
 {
-    let explains = texts.explains;
+    let way = texts.way;
     let mut dump = None;
     if !texts.vcd.is_empty() {
         let file = fs::create(files, texts.vcd).map_err(|_| ProgramError::DumpFile)?;
@@ -64,7 +64,7 @@ fn serve_on<F: Files, R: Read + Drop, W: Write, E: Write>(
     }
     let ranges = &texts.ranges;
     on_drive(
-        alloc, options, ranges, explains, &mut dump, input, output, faults,
+        alloc, options, ranges, way, &mut dump, input, output, faults,
     )
 }
 
@@ -78,7 +78,7 @@ pub(crate) fn serve_controller<F: Files, R: Read + Drop, W: Write, E: Write>(
     faults: &mut E,
 ) -> Result<u8, ProgramError>
     ensures most { IfOk result (λ status. status ≤ 2) }
-    ensures ends { IfOk result (λ status. HbaEnds R.remaining W.contents texts.now.explains
+    ensures ends { IfOk result (λ status. HbaEnds R.remaining W.contents texts.now.way
         (drive_text texts.now.drive) (map (λ s. s.now) texts.now.ranges.items)
         (R.remaining input) status (W.contents output.old) (W.contents output.new)) }
 {

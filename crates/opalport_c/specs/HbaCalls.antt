@@ -10,10 +10,11 @@ use Rattle.fis.specs.Bytes.{bit}
 use Rattle.locking.specs.declared.range.RangeRow.{RangeRow}
 use Rattle.sp_cells.specs.Config.{Config}
 use Rattle.history.specs.Opening.{Origin, opened_with}
-use Rattle.hba.specs.History.{Opened, over_new, State, AgreesHba}
+use Rattle.hba.specs.History.{Opened, over_new_by, State, AgreesHba}
 use Rattle.drive.specs.State.{DriveState, Agrees}
 use Rattle.hba.specs.Registers.{word_at, line}
-use Rattle.host_memory.specs.Access.{Access}
+use Rattle.host_memory.specs.declared.width.AddressWidth.{AddressWidth}
+use Rattle.host_memory.specs.Access.{Access, width_by}
 use Rattle.host_memory.specs.Window.{StandsSo}
 use Rattle.library_calls.specs.Regions.{StandsWithin}
 use Rattle.library_calls.specs.declared.hba_calls.regions.Region.{Region}
@@ -83,14 +84,16 @@ abbrev pub CopiesDenied : Option Object → Option Object → List ℕ → List 
 CopiesDenied had has into out count = ByHba had has (WritesNone into out count)
     (λ old new. IsWrittenOut (denied_text old.denied) into out count × (new ≡ old))
 
--- What the drive of a controller with these rows starts from: with none it is as it leaves the factory.
-abbrev pub HbaStartsAs : Config → List RangeRow → State → Type 0
-HbaStartsAs config rows hba =
-    (o : Origin) × (opened_with config rows ≡ Ok o) × AgreesHba hba (over_new o) []
+-- What the drive of a controller with these rows starts from: with none it is as it leaves the factory. Its addresses have so
+-- many bits.
+abbrev pub HbaStartsAs : AddressWidth → Config → List RangeRow → State → Type 0
+HbaStartsAs width config rows hba =
+    (o : Origin) × (opened_with config rows ≡ Ok o) × AgreesHba hba (over_new_by width o) []
 
 -- A controller after its reset, over a drive that is new, or that has done acts before.
-abbrev pub HbaOver : DriveState → State → Type 0
-HbaOver drive hba = (o : Opened) → Agrees drive o.origin o.earlier → AgreesHba hba o []
+abbrev pub HbaOver : AddressWidth → DriveState → State → Type 0
+HbaOver width drive hba =
+    (o : Opened) → o.width ≡ width → Agrees drive o.origin o.earlier → AgreesHba hba o []
 
 -- A handle with nothing is given a controller that did no turn, or nothing was done.
 pub record MakesHba (had has : Option Object) (size : Size) (msid serial model psid : List ℕ)
@@ -99,7 +102,7 @@ pub record MakesHba (had has : Option Object) (size : Size) (msid serial model p
   pub opened : code ≡ done_code → (desk : HbaDesk) × (has ≡ Some (Hba desk))
       × (desk.denied ≡ None) × ((config : Config)
       × ConfigAsked size msid serial model psid config
-      × HbaStartsAs config (map row_asked cells) desk.hba)
+      × HbaStartsAs (width_by size.wide) config (map row_asked cells) desk.hba)
   pub refused : code ≢ done_code → has ≡ had
   pub can : code ≡ done_code → CanBe size msid serial model psid cells
   pub why : had ≡ None → code ≢ done_code → (error : CallError) × (code ≡ code_of_call error)

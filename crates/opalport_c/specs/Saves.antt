@@ -5,6 +5,7 @@ use Rattle.history.specs.Opening.{Origin}
 use Rattle.history.specs.History.{Act, Reset}
 use Rattle.drive.specs.State.{DriveState, Agrees}
 use Rattle.saved.specs.Saved.{IsSavedBy}
+use Rattle.host_memory.specs.declared.width.AddressWidth.{AddressWidth}
 use Rattle.hba.specs.History.{Opened, State, AgreesHba}
 use Rattle.library_calls.specs.declared.hba_calls.desk.HbaDesk.{HbaDesk}
 use Rattle.library_calls.specs.declared.byte_calls.count.Count.{Count}
@@ -45,13 +46,14 @@ abbrev pub IsLoadedDrive : List ℕ → Object → Type 0
 IsLoadedDrive text object = (desk : DriveDesk) × (object ≡ Drive desk) × IsNewDesk desk
     × ((o : Origin) (acts : List Act) → IsSavedBy text o acts → Agrees desk.drive o acts)
 
--- a controller after its reset, over that drive
-abbrev pub IsHbaOfText : List ℕ → State → Type 0
-IsHbaOfText text hba = (o : Opened) → IsSavedBy text o.origin o.earlier → AgreesHba hba o []
+-- a controller after its reset, over that drive, whose addresses have so many bits
+abbrev pub IsHbaOfText : AddressWidth → List ℕ → State → Type 0
+IsHbaOfText width text hba =
+    (o : Opened) → o.width ≡ width → IsSavedBy text o.origin o.earlier → AgreesHba hba o []
 
-abbrev pub IsLoadedHba : List ℕ → Object → Type 0
-IsLoadedHba text object = (desk : HbaDesk) × (object ≡ Hba desk) × (desk.denied ≡ None)
-    × IsHbaOfText text desk.hba
+abbrev pub IsLoadedHba : AddressWidth → List ℕ → Object → Type 0
+IsLoadedHba width text object = (desk : HbaDesk) × (object ≡ Hba desk) × (desk.denied ≡ None)
+    × IsHbaOfText width text desk.hba
 
 -- A handle with nothing is given what is loaded, or nothing was done.
 pub record Loads (had has : Option Object) (IsLoaded : Object → Type 0) (code : ℕ) : Type 0 where

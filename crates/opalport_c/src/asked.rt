@@ -33,6 +33,8 @@ pub struct Size {
     pub seed: u64,
     /// 0 is `Base`, 1 is `Field`, 2 is `Opal`.
     pub profile: u32,
+    /// Whether a controller's addresses have 64 bits; of a drive and of a port it says nothing.
+    pub wide: bool,
 }
 
 /// The texts and PINs of a drive that is asked for. But for the MSID, an empty one stands for that of a drive that is

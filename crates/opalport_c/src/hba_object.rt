@@ -64,7 +64,7 @@ impl Object {
     }
 
     /// A controller does a turn over bytes.
-    pub(crate) fn work(&mut self, choice: usize, base: u32, bytes: &mut [u8]) -> Worked
+    pub(crate) fn work(&mut self, choice: usize, base: u64, bytes: &mut [u8]) -> Worked
         ensures { OfHba self.old self.new
             (λ e. (result ≡ refused_worked e) × (bytes.new ≡ bytes.old))
             (λ d e. TurnsDesk d e choice (StandsSo base) bytes.old bytes.new result) }
@@ -79,7 +79,7 @@ impl Object {
     pub(crate) fn work_within(
         &mut self,
         choice: usize,
-        base: u32,
+        base: u64,
         bytes: &mut [u8],
         regions: &[Region],
     ) -> Worked

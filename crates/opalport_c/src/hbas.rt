@@ -2,6 +2,7 @@
 
 ghost use Rattle.std.specs.Prelude.{◌≡◌, None, map, IfOk, IfErr, OnOk};
 ghost use Rattle.sp_cells.specs.Config.{Config};
+ghost use Rattle.host_memory.specs.Access.{width_by};
 ghost use Rattle.library_calls.specs.declared.hba_calls.desk.HbaDesk.{HbaDesk};
 ghost use Rattle.opalport_c.specs.Asked.{CanBe, ConfigAsked, IsMakingFault, row_asked};
 ghost use Rattle.opalport_c.specs.HbaCalls.{MakesHba, HbaOver, HbaStartsAs, ReadsWord, TellsInterrupt, WritesByHandle, CyclesByHandle, WorksByHandle, WorksWithin, CopiesDenied};
@@ -12,19 +13,23 @@ use crate::asked::{Names, RangeCells, Size, drive_made};
 use crate::handle::Handle;
 use crate::object::Object;
 use drive::Drive;
-use hba::Hba;
+use hba::{AddressWidth, Hba};
 use library_calls::byte_calls::{CallError, Count, DONE};
 use library_calls::hba_calls::{HbaDesk, Region, Worked};
 use std::alloc::Global;
 
-/// The controller over this drive. It is a call of its own for the stack that it takes, as that of a port.
+/// The controller over this drive, whose addresses have so many bits. It is a call of its own for the stack that it takes, as that of a port.
 #[inline(never)]
-pub(crate) fn hba_over(alloc: Global, drive: Drive) -> Result<Box<Object>, CallError>
+pub(crate) fn hba_over(
+    alloc: Global,
+    drive: Drive,
+    width: AddressWidth,
+) -> Result<Box<Object>, CallError>
     ensures made { IfOk result (λ object. (desk : HbaDesk) × (object.value ≡ objects.Hba desk)
-        × (desk.denied ≡ None) × HbaOver drive desk.hba) }
+        × (desk.denied ≡ None) × HbaOver width drive desk.hba) }
     ensures why { IfErr result (λ e. e ≡ OutOfMemory) }
 {
-    Object::Hba(HbaDesk::new(Hba::new(alloc, drive))).boxed(alloc)
+    Object::Hba(HbaDesk::new(Hba::with_addresses(alloc, drive, width))).boxed(alloc)
 }
 
 /// The controller that is asked for.
@@ -38,14 +43,14 @@ fn hba_asked(
         × (desk.denied ≡ None) × ((config : Config)
         × ConfigAsked size.now names.now.msid.now names.now.serial.now
         names.now.model.now names.now.psid.now config
-        × HbaStartsAs config (map row_asked cells.now) desk.hba)) }
+        × HbaStartsAs (width_by size.now.wide) config (map row_asked cells.now) desk.hba)) }
     ensures can { OnOk result (CanBe size.now names.now.msid.now names.now.serial.now
         names.now.model.now names.now.psid.now cells.now) }
     ensures why { IfErr result (IsMakingFault size.now names.now.msid.now names.now.serial.now
         names.now.model.now names.now.psid.now cells.now) }
 {
     let drive = drive_made(alloc, size, names, cells)?;
-    hba_over(alloc, drive)
+    hba_over(alloc, drive, AddressWidth::by(size.wide))
 }
 
 /// Makes a controller over the drive that is asked for, at a handle with nothing. It tells 0, or the number of the refusal,
@@ -160,7 +165,7 @@ pub extern "C" fn opal_raw_hba_turn(
     handle: &mut Handle,
     alloc: Global,
     choice: usize,
-    base: u32,
+    base: u64,
     bytes: &mut [u8],
 ) -> Worked
     ensures { WorksByHandle handle.old.place.kept handle.new.place.kept choice base
@@ -180,7 +185,7 @@ pub extern "C" fn opal_raw_hba_turn_within(
     handle: &mut Handle,
     alloc: Global,
     choice: usize,
-    base: u32,
+    base: u64,
     bytes: &mut [u8],
     regions: &[Region],
 ) -> Worked

@@ -5,6 +5,7 @@ ghost use Rattle.history.specs.Opening.{Origin};
 ghost use Rattle.history.specs.History.{Act};
 ghost use Rattle.drive.specs.State.{Agrees};
 ghost use Rattle.saved.specs.Saved.{IsSavedBy};
+ghost use Rattle.host_memory.specs.Access.{width_by};
 ghost use Rattle.opalport_c.specs.About.{drive_of};
 ghost use Rattle.opalport_c.specs.Saves.{IsTextOf, IsFormFault, IsLoadedDrive, IsLoadedHba, SavesTo, SavesByHandle, Loads};
 
@@ -14,6 +15,7 @@ use crate::handle::Handle;
 use crate::hbas::hba_over;
 use crate::object::Object;
 use drive::Drive;
+use hba::AddressWidth;
 use library_calls::byte_calls::{CallError, Count, DONE, copy_out};
 use saved::{LoadError, SaveError, load, save};
 use std::alloc::Global;
@@ -80,14 +82,14 @@ fn desk_of_text(alloc: Global, text: &[u8]) -> Result<Box<Object>, CallError>
     Ok(object)
 }
 
-/// A controller over it, in a box.
+/// A controller over it, whose addresses have so many bits, in a box.
 #[inline(never)]
-fn hba_of_text(alloc: Global, text: &[u8]) -> Result<Box<Object>, CallError>
-    ensures loaded { IfOk result (λ object. IsLoadedHba text.now object.value) }
+fn hba_of_text(alloc: Global, text: &[u8], width: AddressWidth) -> Result<Box<Object>, CallError>
+    ensures loaded { IfOk result (λ object. IsLoadedHba width text.now object.value) }
     ensures why { IfErr result IsFormFault }
 {
     let drive = drive_of_text(alloc, text)?;
-    let object = hba_over(alloc, drive)?;
+    let object = hba_over(alloc, drive, width)?;
     Ok(object)
 }
 
@@ -124,15 +126,22 @@ pub extern "C" fn opal_raw_drive_load(handle: &mut Handle, alloc: Global, text: 
 }
 
 /// Makes a controller over the drive that was saved as these bytes, at a handle with nothing: `opal_hba_load` of the header. Its
-/// registers are as after its reset, and it counts the acts of its drive from now on. It tells what `opal_raw_drive_load` does.
+/// registers are as after its reset, its addresses have 64 bits where it is `wide`, and it counts the acts of its drive from now
+/// on. It tells what `opal_raw_drive_load` does.
 #[unsafe(no_mangle)]
-pub extern "C" fn opal_raw_hba_load(handle: &mut Handle, alloc: Global, text: &[u8]) -> u32
-    ensures { Loads handle.old.place.kept handle.new.place.kept (IsLoadedHba text.now) result }
+pub extern "C" fn opal_raw_hba_load(
+    handle: &mut Handle,
+    alloc: Global,
+    text: &[u8],
+    wide: bool,
+) -> u32
+    ensures { Loads handle.old.place.kept handle.new.place.kept
+        (IsLoadedHba (width_by wide) text.now) result }
 {
     if handle.is_open() {
         return CallError::InUse.code();
     }
-    match hba_of_text(alloc, text) {
+    match hba_of_text(alloc, text, AddressWidth::by(wide)) {
         Ok(object) => {
             handle.put(object);
             DONE

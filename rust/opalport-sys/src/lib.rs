@@ -35,6 +35,8 @@ pub struct Size {
     pub seed: u64,
     /// 0 is base, 1 is field, 2 is opal.
     pub profile: u32,
+    /// Whether a controller's addresses have 64 bits (CAP.S64A).
+    pub wide: bool,
 }
 
 /// A region of a host's memory: `opal_region`.
@@ -296,7 +298,7 @@ extern "C" {
     /// `opal_drive_load` of the header.
     pub fn opal_raw_drive_load(handle: *mut Handle, saved: *const u8, length: usize) -> u32;
     /// `opal_hba_load` of the header.
-    pub fn opal_raw_hba_load(handle: *mut Handle, saved: *const u8, length: usize) -> u32;
+    pub fn opal_raw_hba_load(handle: *mut Handle, saved: *const u8, length: usize, wide: bool) -> u32;
     /// `opal_free` of the header.
     pub fn opal_raw_free(handle: *mut Handle) -> u32;
     /// `opal_drive_accept` of the header.
@@ -414,12 +416,12 @@ extern "C" {
     /// `opal_hba_power_cycle` of the header.
     pub fn opal_raw_hba_power_cycle(handle: *mut Handle) -> u32;
     /// `opal_hba_turn` of the header.
-    pub fn opal_raw_hba_turn(handle: *mut Handle, choice: usize, base: u32, memory: *mut u8, length: usize) -> Worked;
+    pub fn opal_raw_hba_turn(handle: *mut Handle, choice: usize, base: u64, memory: *mut u8, length: usize) -> Worked;
     /// `opal_hba_turn_within` of the header.
     pub fn opal_raw_hba_turn_within(
         handle: *mut Handle,
         choice: usize,
-        base: u32,
+        base: u64,
         memory: *mut u8,
         length: usize,
         regions: *const Region,

@@ -38,7 +38,9 @@ impl Drive {
     /// The drive that was saved as these bytes. It answers as the saved drive does behind a power cycle. [`Error::Malformed`] of
     /// bytes that are no saved drive.
     pub fn load(saved: &[u8]) -> Result<Drive, Error> {
-        Object::load(raw::opal_raw_drive_load, saved).map(|object| Drive { object })
+        // SAFETY: the handle is one with nothing; the bytes are borrowed for the call.
+        Object::load(|handle, bytes, length| unsafe { raw::opal_raw_drive_load(handle, bytes, length) }, saved)
+            .map(|object| Drive { object })
     }
 
     fn answer(&mut self, told: raw::Answer) -> Result<Answer, Error> {

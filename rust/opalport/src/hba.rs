@@ -53,15 +53,31 @@ pub struct Hba {
 }
 
 impl Hba {
-    /// A controller over the drive that is asked for, as it is after its reset.
+    /// A controller over the drive that is asked for, as it is after its reset. Its addresses are below 4 GiB.
     pub fn new(config: &Config<'_>) -> Result<Hba, Error> {
         Object::new(raw::opal_raw_hba_new, config).map(|object| Hba { object })
+    }
+
+    /// The same, but CAP.S64A is 1: its addresses have 64 bits, and memory of the host may stand past 4 GiB.
+    pub fn wide(config: &Config<'_>) -> Result<Hba, Error> {
+        Object::with_addresses(raw::opal_raw_hba_new, config, true).map(|object| Hba { object })
     }
 
     /// A controller over the drive that was saved as these bytes, as [`Drive::load`](crate::Drive::load). Its registers are as after
     /// its reset, and it counts the acts of its drive from then on.
     pub fn load(saved: &[u8]) -> Result<Hba, Error> {
-        Object::load(raw::opal_raw_hba_load, saved).map(|object| Hba { object })
+        Hba::loaded(saved, false)
+    }
+
+    /// The same, but CAP.S64A is 1: its addresses have 64 bits.
+    pub fn load_wide(saved: &[u8]) -> Result<Hba, Error> {
+        Hba::loaded(saved, true)
+    }
+
+    fn loaded(saved: &[u8], wide: bool) -> Result<Hba, Error> {
+        // SAFETY: the handle is one with nothing; the bytes are borrowed for the call.
+        Object::load(|handle, bytes, length| unsafe { raw::opal_raw_hba_load(handle, bytes, length, wide) }, saved)
+            .map(|object| Hba { object })
     }
 
     /// Its drive as bytes, as [`Drive::save`](crate::Drive::save).
@@ -102,7 +118,7 @@ impl Hba {
 
     /// The controller does a work of those that are ready, the one of the number `choice`, modulo how many they are. The host's
     /// memory is `memory`, from the address `base` on; there is no other. It is read and written in this call alone.
-    pub fn turn(&mut self, choice: usize, base: u32, memory: &mut [u8]) -> Result<Worked, Error> {
+    pub fn turn(&mut self, choice: usize, base: u64, memory: &mut [u8]) -> Result<Worked, Error> {
         // SAFETY: the handle is this controller's own, and the memory is there for the call.
         let told =
             unsafe { raw::opal_raw_hba_turn(&mut self.object.handle, choice, base, memory.as_mut_ptr(), memory.len()) };
@@ -114,7 +130,7 @@ impl Hba {
     pub fn turn_within(
         &mut self,
         choice: usize,
-        base: u32,
+        base: u64,
         memory: &mut [u8],
         regions: &[Region],
     ) -> Result<Worked, Error> {

@@ -581,9 +581,6 @@ type Make = unsafe extern "C" fn(
     usize,
 ) -> u32;
 
-/// How it makes a drive of the bytes of one, or a controller over it.
-type Load = unsafe extern "C" fn(*mut raw::Handle, *const u8, usize) -> u32;
-
 /// Whether the library has the version of these crates.
 fn library_fits() -> Result<(), Error> {
     // SAFETY: it takes nothing.
@@ -595,6 +592,11 @@ fn library_fits() -> Result<(), Error> {
 
 impl Object {
     fn new(make: Make, config: &Config<'_>) -> Result<Object, Error> {
+        Object::with_addresses(make, config, false)
+    }
+
+    /// One whose addresses have 64 bits, or not.
+    fn with_addresses(make: Make, config: &Config<'_>, wide: bool) -> Result<Object, Error> {
         library_fits()?;
         let label = config.label;
         let size = raw::Size {
@@ -603,6 +605,7 @@ impl Object {
             datastore: label.datastore.map_or(u64::MAX, |bytes| bytes.min(u64::MAX - 1)),
             seed: label.seed,
             profile: config.profile.number().into(),
+            wide,
         };
         let cells: Vec<raw::RangeCells> = config.ranges.iter().map(cells_of).collect();
         let mut object = Object::none();
@@ -628,11 +631,13 @@ impl Object {
     }
 
     /// What a call makes of the bytes of a drive.
-    fn load(call: Load, saved: &[u8]) -> Result<Object, Error> {
+    fn load(
+        call: impl FnOnce(*mut raw::Handle, *const u8, usize) -> u32,
+        saved: &[u8],
+    ) -> Result<Object, Error> {
         library_fits()?;
         let mut object = Object::none();
-        // SAFETY: the handle begins as one with nothing; the bytes are borrowed for the call.
-        Error::check(unsafe { call(&mut object.handle, saved.as_ptr(), saved.len()) })?;
+        Error::check(call(&mut object.handle, saved.as_ptr(), saved.len()))?;
         Ok(object)
     }
 

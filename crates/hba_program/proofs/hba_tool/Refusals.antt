@@ -18,14 +18,15 @@ use Rattle.drive_scripts.specs.Kept.{KeptReasons, RecountsAll}
 use Rattle.drive_scripts.specs.Explanations.{no_objection, objection_in, objection_text, told_reasons}
 use Rattle.drive_scripts.proofs.Added.{attributed_none, attributed_one, bare_none, bare_one, reasons_of_none, reasons_of_reset}
 use Rattle.hba.specs.declared.work.Heard.{Heard}
+use Rattle.host_memory.specs.declared.width.AddressWidth.{AddressWidth}
 use Rattle.hba.specs.Registers.{write_resets}
-use Rattle.hba.specs.History.{over_new, State, Operation, Wrote, Powered, Signed, Missed, Controlled, Asserted, Restarted, Unheard, Fetched, Completed, HasActed, AgreesHba, Adds, HeardSo, account, acts_of, act_count}
+use Rattle.hba.specs.History.{over_new_by, State, Operation, Wrote, Powered, Signed, Missed, Controlled, Asserted, Restarted, Unheard, Fetched, Completed, HasActed, AgreesHba, Adds, HeardSo, account, acts_of, act_count}
 use Rattle.hba.specs.Engine.{done_of}
 use Rattle.hba_program.specs.Explained.{ExplainsActs, ExplainsSo, HearsOperation, IsOwn}
 
 -- where nothing was done before, all acts are these
-drive_of_new : (hba : State) (o : Origin) (acts : List Act) → HasActed hba (over_new o) acts → Agrees hba.drive o acts
-drive_of_new hba o acts acted = subst (λ (all : List Act). Agrees hba.drive o all) (append-nil acts) acted.drive
+drive_of_new : (width : AddressWidth) (hba : State) (o : Origin) (acts : List Act) → HasActed hba (over_new_by width o) acts → Agrees hba.drive o acts
+drive_of_new width hba o acts acted = subst (λ (all : List Act). Agrees hba.drive o all) (append-nil acts) acted.drive
 
 -- an act more is counted
 count_grows : (n : ℕ) → suc n % 2 ^ 64 ≡ n % 2 ^ 64 → ⊥
@@ -49,20 +50,20 @@ noted_none source o past kept recounts = record {
   reasons = sym (reasons_of_none o past);
 }
 
-pub noted : (source : Source) (o : Origin) (past : List Sourced) (act : Option Act) (kept : KeptReasons) (hba : State)
+pub noted : (width : AddressWidth) (source : Source) (o : Origin) (past : List Sourced) (act : Option Act) (kept : KeptReasons) (hba : State)
     (count : ℕ) → (hba.acts ≡ count → ⊥) → told_reasons o past (with_act act (bare_acts past)) ≡ []
-    → HasActed hba (over_new o) (with_act act (bare_acts past)) → count ≡ act_count (bare_acts past)
+    → HasActed hba (over_new_by width o) (with_act act (bare_acts past)) → count ≡ act_count (bare_acts past)
     → ((a : Act) → act ≡ Some a → Agrees hba.drive o (a ∷ bare_acts past) → RecountsAll kept o (from_source source a ∷ past))
     → ExplainsActs source o past (with_act act (bare_acts past)) kept []
-noted source o past None kept hba count differs silent acted is recounts = absurd (differs (acted.count ∙ sym is))
-noted source o past (Some act) kept hba count differs silent acted is recounts =
-    noted_act source o past act kept (recounts act refl (drive_of_new hba o (act ∷ bare_acts past) acted)) silent
+noted width source o past None kept hba count differs silent acted is recounts = absurd (differs (acted.count ∙ sym is))
+noted width source o past (Some act) kept hba count differs silent acted is recounts =
+    noted_act source o past act kept (recounts act refl (drive_of_new width hba o (act ∷ bare_acts past) acted)) silent
 
-pub unnoted : (source : Source) (o : Origin) (past : List Sourced) (act : Option Act) (kept : KeptReasons) (hba : State)
-    (count : ℕ) → hba.acts ≡ count → HasActed hba (over_new o) (with_act act (bare_acts past)) → count ≡ act_count (bare_acts past)
+pub unnoted : (width : AddressWidth) (source : Source) (o : Origin) (past : List Sourced) (act : Option Act) (kept : KeptReasons) (hba : State)
+    (count : ℕ) → hba.acts ≡ count → HasActed hba (over_new_by width o) (with_act act (bare_acts past)) → count ≡ act_count (bare_acts past)
     → RecountsAll kept o past → ExplainsActs source o past (with_act act (bare_acts past)) kept []
-unnoted source o past None kept hba count same acted is recounts = noted_none source o past kept recounts
-unnoted source o past (Some act) kept hba count same acted is recounts =
+unnoted width source o past None kept hba count same acted is recounts = noted_none source o past kept recounts
+unnoted width source o past (Some act) kept hba count same acted is recounts =
     absurd (count_grows (length (bare_acts past)) (sym acted.count ∙ same ∙ is))
 
 -- a completion and a software reset deny nothing
@@ -105,19 +106,19 @@ TellsCommand source old new hba heard text =
 
 abbrev pub NotesAct : Source → Cause → KeptReasons → KeptReasons → State → ℕ → Type 0
 NotesAct source cause old new hba count =
-    (o : Origin) (past : List Sourced) (act : Option Act) → (is_some act ≡ true → cause_at act ≡ cause)
+    (width : AddressWidth) (o : Origin) (past : List Sourced) (act : Option Act) → (is_some act ≡ true → cause_at act ≡ cause)
     → told_reasons o past (with_act act (bare_acts past)) ≡ []
-    → HasActed hba (over_new o) (with_act act (bare_acts past)) → count ≡ act_count (bare_acts past) → RecountsAll old o past
+    → HasActed hba (over_new_by width o) (with_act act (bare_acts past)) → count ≡ act_count (bare_acts past) → RecountsAll old o past
     → ExplainsActs source o past (with_act act (bare_acts past)) new []
 
-by_act : (source : Source) (cause : Cause) (old new : KeptReasons) (before after : State) (count : ℕ) (o : Origin)
+by_act : (source : Source) (cause : Cause) (old new : KeptReasons) (before after : State) (count : ℕ) (width : AddressWidth) (o : Origin)
     (list : List Operation) (past : List Sourced) (act : Option Act) → NotesAct source cause old new after count
-    → count ≡ before.acts → AgreesHba before (over_new o) list → bare_acts past ≡ acts_of (over_new o) list → RecountsAll old o past
+    → count ≡ before.acts → AgreesHba before (over_new_by width o) list → bare_acts past ≡ acts_of (over_new_by width o) list → RecountsAll old o past
     → (is_some act ≡ true → cause_at act ≡ cause) → told_reasons o past (with_act act (bare_acts past)) ≡ []
-    → HasActed after (over_new o) (with_act act (acts_of (over_new o) list)) → ExplainsActs source o past (with_act act (acts_of (over_new o) list)) new []
-by_act source cause old new before after count o list past act notes is agrees bare kept by silent acted =
+    → HasActed after (over_new_by width o) (with_act act (acts_of (over_new_by width o) list)) → ExplainsActs source o past (with_act act (acts_of (over_new_by width o) list)) new []
+by_act source cause old new before after count width o list past act notes is agrees bare kept by silent acted =
     subst (λ (acts : List Act). ExplainsActs source o past (with_act act acts) new []) bare
-    (notes o past act by silent (subst (λ (acts : List Act). HasActed after (over_new o) (with_act act acts)) (sym bare) acted)
+    (notes width o past act by silent (subst (λ (acts : List Act). HasActed after (over_new_by width o) (with_act act acts)) (sym bare) acted)
     (is ∙ agrees.acted.count ∙ ap act_count (sym bare)) kept)
 
 no_some : {A B : Type 0} (x : A) → Some x ≡ None → B
@@ -133,39 +134,39 @@ pub explained_command : (source : Source) (old new : KeptReasons) (before after 
     (heard : Heard) (text : List ℕ) → TellsCommand source old new after heard text
     → HearsOperation before after (Some heard) operation → ExplainsSo source old new before operation text
 explained_command source old new before after (Fetched tag fis payload arrival) heard text tells hears =
-    λ o list past agrees bare kept.
-    let h = hears (over_new o) list agrees in
+    λ width o list past agrees bare kept.
+    let h = hears (over_new_by width o) list agrees in
     subst (λ (acts : List Act). ExplainsActs source o past (Accept fis payload ∷ acts) new text) bare
     (tells o past fis payload
     (subst (λ (acts : List Act). HeardSo heard fis payload (event o (log o acts) (Accept fis payload)))
-    (append-nil (acts_of (over_new o) list) ∙ sym bare) h.1)
+    (append-nil (acts_of (over_new_by width o) list) ∙ sym bare) h.1)
     (subst (λ (acts : List Act). Agrees after.drive o (Accept fis payload ∷ acts)) (sym bare)
-    (drive_of_new after o (Accept fis payload ∷ acts_of (over_new o) list) h.0.acted)) kept)
+    (drive_of_new width after o (Accept fis payload ∷ acts_of (over_new_by width o) list) h.0.acted)) kept)
 explained_command source old new before after (Wrote offset value) heard text tells hears =
-    λ o list past agrees bare kept. no_some heard (hears (over_new o) list agrees).1
+    λ width o list past agrees bare kept. no_some heard (hears (over_new_by width o) list agrees).1
 explained_command source old new before after Powered heard text tells hears =
-    λ o list past agrees bare kept. no_some heard (hears (over_new o) list agrees).1
+    λ width o list past agrees bare kept. no_some heard (hears (over_new_by width o) list agrees).1
 explained_command source old new before after Signed heard text tells hears =
-    λ o list past agrees bare kept. no_some heard (hears (over_new o) list agrees).1
+    λ width o list past agrees bare kept. no_some heard (hears (over_new_by width o) list agrees).1
 explained_command source old new before after (Missed fetched miss) heard text tells hears =
-    λ o list past agrees bare kept. no_some heard (hears (over_new o) list agrees).1
+    λ width o list past agrees bare kept. no_some heard (hears (over_new_by width o) list agrees).1
 explained_command source old new before after (Controlled tag) heard text tells hears =
-    λ o list past agrees bare kept. no_some heard (hears (over_new o) list agrees).1
+    λ width o list past agrees bare kept. no_some heard (hears (over_new_by width o) list agrees).1
 explained_command source old new before after (Asserted tag) heard text tells hears =
-    λ o list past agrees bare kept. no_some heard (hears (over_new o) list agrees).1
+    λ width o list past agrees bare kept. no_some heard (hears (over_new_by width o) list agrees).1
 explained_command source old new before after (Restarted tag) heard text tells hears =
-    λ o list past agrees bare kept. no_some heard (hears (over_new o) list agrees).1
+    λ width o list past agrees bare kept. no_some heard (hears (over_new_by width o) list agrees).1
 explained_command source old new before after (Unheard tag) heard text tells hears =
-    λ o list past agrees bare kept. no_some heard (hears (over_new o) list agrees).1
+    λ width o list past agrees bare kept. no_some heard (hears (over_new_by width o) list agrees).1
 explained_command source old new before after (Completed tag payload arrival) heard text tells hears =
-    λ o list past agrees bare kept. no_some heard (hears (over_new o) list agrees).1
+    λ width o list past agrees bare kept. no_some heard (hears (over_new_by width o) list agrees).1
 
-by_none : (source : Source) (old new : KeptReasons) (before after : State) (count : ℕ) (o : Origin)
+by_none : (source : Source) (old new : KeptReasons) (before after : State) (count : ℕ) (width : AddressWidth) (o : Origin)
     (list : List Operation) (past : List Sourced) → NotesAct source NoCause old new after count
-    → count ≡ before.acts → AgreesHba before (over_new o) list → bare_acts past ≡ acts_of (over_new o) list → RecountsAll old o past
-    → HasActed after (over_new o) (acts_of (over_new o) list) → ExplainsActs source o past (acts_of (over_new o) list) new []
-by_none source old new before after count o list past notes is agrees bare kept acted =
-    by_act source NoCause old new before after count o list past None notes is agrees bare kept (none_by NoCause)
+    → count ≡ before.acts → AgreesHba before (over_new_by width o) list → bare_acts past ≡ acts_of (over_new_by width o) list → RecountsAll old o past
+    → HasActed after (over_new_by width o) (acts_of (over_new_by width o) list) → ExplainsActs source o past (acts_of (over_new_by width o) list) new []
+by_none source old new before after count width o list past notes is agrees bare kept acted =
+    by_act source NoCause old new before after count width o list past None notes is agrees bare kept (none_by NoCause)
     (reasons_of_none o past) acted
 
 pub explained_other : (source : Source) (old new : KeptReasons) (before after : State) (operation : Operation) (count : ℕ)
@@ -174,47 +175,47 @@ pub explained_other : (source : Source) (old new : KeptReasons) (before after : 
 explained_other source old new before after (Wrote offset value) count notes is works hears =
     absurd (true≢false (sym works))
 explained_other source old new before after Powered count notes is works hears = absurd (true≢false (sym works))
-explained_other source old new before after Signed count notes is works hears = λ o list past agrees bare kept.
-    by_none source old new before after count o list past notes is agrees bare kept (hears (over_new o) list agrees).0.acted
-explained_other source old new before after (Missed fetched miss) count notes is works hears = λ o list past agrees bare kept.
-    by_none source old new before after count o list past notes is agrees bare kept (hears (over_new o) list agrees).0.acted
-explained_other source old new before after (Controlled tag) count notes is works hears = λ o list past agrees bare kept.
-    by_none source old new before after count o list past notes is agrees bare kept (hears (over_new o) list agrees).0.acted
-explained_other source old new before after (Asserted tag) count notes is works hears = λ o list past agrees bare kept.
-    by_none source old new before after count o list past notes is agrees bare kept (hears (over_new o) list agrees).0.acted
-explained_other source old new before after (Unheard tag) count notes is works hears = λ o list past agrees bare kept.
-    by_none source old new before after count o list past notes is agrees bare kept (hears (over_new o) list agrees).0.acted
-explained_other source old new before after (Restarted tag) count notes is works hears = λ o list past agrees bare kept.
-    by_act source NoCause old new before after count o list past (Some SoftwareReset) notes is agrees bare kept (λ e. refl)
-    (reasons_of_restart o past) (hears (over_new o) list agrees).0.acted
-explained_other source old new before after (Completed tag payload arrival) count notes is works hears = λ o list past agrees bare kept.
-    by_act source NoCause old new before after count o list past (Some (Complete tag payload)) notes is agrees bare kept (λ e. refl)
-    (reasons_of_completion o past tag payload) (hears (over_new o) list agrees).0.acted
-explained_other source old new before after (Fetched tag fis payload arrival) count notes is works hears = λ o list past agrees bare kept.
-    absurd (hears (over_new o) list agrees).1
+explained_other source old new before after Signed count notes is works hears = λ width o list past agrees bare kept.
+    by_none source old new before after count width o list past notes is agrees bare kept (hears (over_new_by width o) list agrees).0.acted
+explained_other source old new before after (Missed fetched miss) count notes is works hears = λ width o list past agrees bare kept.
+    by_none source old new before after count width o list past notes is agrees bare kept (hears (over_new_by width o) list agrees).0.acted
+explained_other source old new before after (Controlled tag) count notes is works hears = λ width o list past agrees bare kept.
+    by_none source old new before after count width o list past notes is agrees bare kept (hears (over_new_by width o) list agrees).0.acted
+explained_other source old new before after (Asserted tag) count notes is works hears = λ width o list past agrees bare kept.
+    by_none source old new before after count width o list past notes is agrees bare kept (hears (over_new_by width o) list agrees).0.acted
+explained_other source old new before after (Unheard tag) count notes is works hears = λ width o list past agrees bare kept.
+    by_none source old new before after count width o list past notes is agrees bare kept (hears (over_new_by width o) list agrees).0.acted
+explained_other source old new before after (Restarted tag) count notes is works hears = λ width o list past agrees bare kept.
+    by_act source NoCause old new before after count width o list past (Some SoftwareReset) notes is agrees bare kept (λ e. refl)
+    (reasons_of_restart o past) (hears (over_new_by width o) list agrees).0.acted
+explained_other source old new before after (Completed tag payload arrival) count notes is works hears = λ width o list past agrees bare kept.
+    by_act source NoCause old new before after count width o list past (Some (Complete tag payload)) notes is agrees bare kept (λ e. refl)
+    (reasons_of_completion o past tag payload) (hears (over_new_by width o) list agrees).0.acted
+explained_other source old new before after (Fetched tag fis payload arrival) count notes is works hears = λ width o list past agrees bare kept.
+    absurd (hears (over_new_by width o) list agrees).1
 
-by_reset : (b : Bool) (source : Source) (old new : KeptReasons) (before after : State) (count : ℕ) (o : Origin)
+by_reset : (b : Bool) (source : Source) (old new : KeptReasons) (before after : State) (count : ℕ) (width : AddressWidth) (o : Origin)
     (list : List Operation) (past : List Sourced) → NotesAct source (ResetBy hardware) old new after count
-    → count ≡ before.acts → AgreesHba before (over_new o) list → bare_acts past ≡ acts_of (over_new o) list → RecountsAll old o past
-    → HasActed after (over_new o) (if b then Reset hardware ∷ acts_of (over_new o) list else acts_of (over_new o) list)
-    → ExplainsActs source o past (if b then Reset hardware ∷ acts_of (over_new o) list else acts_of (over_new o) list) new []
-by_reset true source old new before after count o list past notes is agrees bare kept acted =
-    by_act source (ResetBy hardware) old new before after count o list past (Some (Reset hardware)) notes is agrees bare kept (λ e. refl)
+    → count ≡ before.acts → AgreesHba before (over_new_by width o) list → bare_acts past ≡ acts_of (over_new_by width o) list → RecountsAll old o past
+    → HasActed after (over_new_by width o) (if b then Reset hardware ∷ acts_of (over_new_by width o) list else acts_of (over_new_by width o) list)
+    → ExplainsActs source o past (if b then Reset hardware ∷ acts_of (over_new_by width o) list else acts_of (over_new_by width o) list) new []
+by_reset true source old new before after count width o list past notes is agrees bare kept acted =
+    by_act source (ResetBy hardware) old new before after count width o list past (Some (Reset hardware)) notes is agrees bare kept (λ e. refl)
     (reasons_of_reset o past hardware) acted
-by_reset false source old new before after count o list past notes is agrees bare kept acted =
-    by_act source (ResetBy hardware) old new before after count o list past None notes is agrees bare kept (none_by (ResetBy hardware))
+by_reset false source old new before after count width o list past notes is agrees bare kept acted =
+    by_act source (ResetBy hardware) old new before after count width o list past None notes is agrees bare kept (none_by (ResetBy hardware))
     (reasons_of_none o past) acted
 
 pub explained_own : (source : Source) (cause : Cause) (old new : KeptReasons) (before after : State) (count : ℕ)
     (operation : Operation) → NotesAct source cause old new after count → count ≡ before.acts → IsOwn operation cause
     → Adds operation before after → ExplainsSo source old new before operation []
-explained_own source cause old new before after count (Wrote offset value) notes is by adds = λ o list past agrees bare kept.
-    by_reset (write_resets (account (over_new o) list).registers offset value) source old new before after count o list past
-    (subst (λ (c : Cause). NotesAct source c old new after count) by notes) is agrees bare kept (adds (over_new o) list agrees).acted
-explained_own source cause old new before after count Powered notes is by adds = λ o list past agrees bare kept.
-    by_act source (ResetBy power_cycle) old new before after count o list past (Some (Reset power_cycle))
+explained_own source cause old new before after count (Wrote offset value) notes is by adds = λ width o list past agrees bare kept.
+    by_reset (write_resets (account (over_new_by width o) list).registers offset value) source old new before after count width o list past
+    (subst (λ (c : Cause). NotesAct source c old new after count) by notes) is agrees bare kept (adds (over_new_by width o) list agrees).acted
+explained_own source cause old new before after count Powered notes is by adds = λ width o list past agrees bare kept.
+    by_act source (ResetBy power_cycle) old new before after count width o list past (Some (Reset power_cycle))
     (subst (λ (c : Cause). NotesAct source c old new after count) by notes) is agrees bare kept (λ e. refl)
-    (reasons_of_reset o past power_cycle) (adds (over_new o) list agrees).acted
+    (reasons_of_reset o past power_cycle) (adds (over_new_by width o) list agrees).acted
 explained_own source cause old new before after count Signed notes is by adds = absurd by
 explained_own source cause old new before after count (Missed fetched miss) notes is by adds = absurd by
 explained_own source cause old new before after count (Controlled tag) notes is by adds = absurd by

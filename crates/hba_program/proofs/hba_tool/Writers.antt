@@ -1,6 +1,7 @@
 -- The writer of a pipe stays the caller's, whatever a host is served.
 use Rattle.std.proofs.Common.{◌≡◌, ℕ, zero, suc, Bool, true, false, List, [], ◌∷◌, Option, Some, None, Result, Ok, Err, inl, inr, ap, ◌∙◌}
-use Rattle.host_memory.specs.Access.{Access, Asked, Laid, Accessed, IsAccessIf}
+use Rattle.host_memory.specs.declared.width.AddressWidth.{AddressWidth}
+use Rattle.host_memory.specs.Access.{Access, Asked, Laid, IsAccess, Accessed, IsAccessIf}
 use Rattle.hba_program.specs.declared.hba_tool.session.Told.{Told}
 use Rattle.hba_program.specs.declared.hba_lines.request.Request.{Request}
 use Rattle.hba_program.specs.declared.hba_lines.request.Request.TheVariants as asks
@@ -29,11 +30,12 @@ allowed_if remaining contents true access old new does =
 allowed_if remaining contents false access old new does = ap (λ w. w.output.ghost_name) does.1
 
 accessed : {R W : Type 0} (remaining : R → Option (List ℕ)) (contents : W → Option (List ℕ))
-    (talk : List Access) (old new : Wire R W) → Accessed (Accesses remaining contents) old talk new
+    (width : AddressWidth) (talk : List Access) (old new : Wire R W)
+    → Accessed (IsAccess width (Accesses remaining contents)) old talk new
     → SameWriter old new
-accessed remaining contents [] old new same = ap (λ w. w.output.ghost_name) same
-accessed remaining contents (access ∷ later) old new does =
-    accessed remaining contents later does.0 new does.2
+accessed remaining contents width [] old new same = ap (λ w. w.output.ghost_name) same
+accessed remaining contents width (access ∷ later) old new does =
+    accessed remaining contents width later does.0 new does.2
     ∙ allowed_if remaining contents _ access old does.0 does.1
 
 worked : {R W : Type 0} (remaining : R → Option (List ℕ)) (contents : W → Option (List ℕ))
@@ -41,7 +43,7 @@ worked : {R W : Type 0} (remaining : R → Option (List ℕ)) (contents : W → 
     → WorksIf remaining contents number choice told before after → Same before after
 worked remaining contents number choice None before after works = nothing before after works.same
 worked remaining contents number choice (Some told) before after works =
-    accessed remaining contents works.does.0 before.wire after.wire works.does.2
+    accessed remaining contents before.hba.registers.width works.does.0 before.wire after.wire works.does.2
 
 told : {R W : Type 0} (remaining : R → Option (List ℕ)) (contents : W → Option (List ℕ))
     (b : Bool) (text : List ℕ) (before after : Stand R W)

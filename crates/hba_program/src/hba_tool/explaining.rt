@@ -9,8 +9,9 @@ ghost use Rattle.drive_scripts.specs.Kept.{RecountsAll};
 ghost use Rattle.reasons.specs.declared.explained.onset.Counted.TheVariants.{Acts};
 ghost use Rattle.reasons.specs.Rulings.{command_carried};
 ghost use Rattle.drive_scripts.specs.Explanations.{denial_text, told_reasons};
-ghost use Rattle.hba.specs.History.{over_new, State, Operation, HasActed, Adds, HeardSo, act_count};
+ghost use Rattle.hba.specs.History.{over_new_by, State, Operation, HasActed, Adds, HeardSo, act_count};
 ghost use Rattle.hba.specs.Engine.{done_of};
+ghost use Rattle.host_memory.specs.declared.width.AddressWidth.{AddressWidth};
 ghost use Rattle.hba_program.specs.Explained.{ExplainsActs, ExplainsOperation, HearsOperation, IsOwn, StartsTelling};
 
 use audit::AuditLine;
@@ -89,10 +90,10 @@ fn explain_command(
 
 /// Notes an act of this cause that was no command, if the drive has done one since it had done so many.
 fn note_act(explainer: &mut Explainer, hba: &Hba, acts: u64, cause: Cause, source: Source)
-    ensures { (o : Origin) (past : List Sourced) (act : Option Act)
+    ensures { (width : AddressWidth) (o : Origin) (past : List Sourced) (act : Option Act)
         → (is_some act ≡ true → cause_at act ≡ cause)
         → told_reasons o past (with_act act (bare_acts past)) ≡ []
-        → HasActed hba.now (over_new o) (with_act act (bare_acts past))
+        → HasActed hba.now (over_new_by width o) (with_act act (bare_acts past))
         → acts ≡ act_count (bare_acts past) → RecountsAll explainer.old o past
         → ExplainsActs source o past (with_act act (bare_acts past)) explainer.new [] }
 {

@@ -8,6 +8,7 @@ ghost use Rattle.hba_program.specs.Waves.{DoesAllWaved, ServesWaved};
 use crate::hba_lines::Request;
 use crate::hba_tool::error::ServeError;
 use crate::hba_tool::session::Session;
+use crate::hba_tool::way::Way;
 use crate::hba_wire::{Wire, WireError};
 use drive::Drive;
 use hba_waves::{Dump, show_if};
@@ -86,7 +87,7 @@ fn host_served<R: Read + Drop, W: Write, D: Write + Drop>(
 
 /// A controller over a drive that has done no act, for the host that a reader and a writer lead to: it does what
 /// each line asks for, and writes the answer before it reads on. The host's memory stays with the host,
-/// and is asked for by lines. Behind what was refused stands why, where it `explains`. The dump, where one is wanted, is
+/// and is asked for by lines. Behind what was refused stands why, where its `way` explains. The dump, where one is wanted, is
 /// written as the lines are done. It gives the status: 0, or 2 where a line was none or the input ended where an answer was due.
 ///
 /// # Errors
@@ -97,15 +98,15 @@ pub fn serve<R: Read + Drop, W: Write, D: Write + Drop>(
     input: R,
     output: &mut W,
     drive: Drive,
-    explains: bool,
+    way: Way,
     dump: &mut Option<Dump<D>>,
 ) -> Result<u8, ServeError>
     ensures most { IfOk result (λ status. status ≤ 2) }
-    ensures served { IfOk result (λ status. ServesWaved R.remaining W.contents D.contents explains
+    ensures served { IfOk result (λ status. ServesWaved R.remaining W.contents D.contents way
         drive (R.remaining input) status (W.contents output.old) (W.contents output.new)
         dump.old dump.new) }
 {
-    let mut session = Session::new(alloc, drive, explains);
+    let mut session = Session::new(alloc, drive, way);
     let Ok(mut wire) = Wire::new(alloc, input, output) else {
         session.end();
         return Err(ServeError::Wire(WireError::Memory));

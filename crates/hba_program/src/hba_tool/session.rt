@@ -2,13 +2,14 @@
 
 ghost use Rattle.std.specs.Prelude.{◌≡◌, ◌++◌, ◌∷◌, [], None, Some, OnOk, IfOk, IfSome, is_some, true};
 ghost use Rattle.script_lines.specs.Texts.{audit_text};
-ghost use Rattle.hba.specs.History.{over_new, State, Operation, Adds, denial_heard};
+ghost use Rattle.hba.specs.History.{over_new_by, State, Operation, Adds, denial_heard};
 ghost use Rattle.hba.specs.Engine.{done_of};
 ghost use Rattle.hba_program.specs.Explained.{ExplainsOperation, HearsOperation, IsOwn, StartsTelling, source_at};
 ghost use Rattle.hba_program.specs.Sayings.{part_by, work_tag, fetch_reply, complete_reply, work_reply, work_text, denials_text, sector_line, kept_denial};
 
 use crate::hba_lines::{MemoryPart, Reply, Request};
 use crate::hba_tool::explaining::{Denial, explain_work, first_explainer, note_own};
+use crate::hba_tool::way::Way;
 use crate::hba_wire::{Wire, WireError};
 use audit::{AuditLine, Why, line_bytes};
 use basics::append_hex;
@@ -151,16 +152,17 @@ impl Session {
     ghost use Rattle.hba_program.specs.declared.hba_lines.reply.Reply.TheVariants as says;
     ghost use Rattle.hba_program.specs.Steps.{stand, TellsHost, WorksIf, Turns, TurnsOn, RunsOut, Operates, TellsWhy, sector_text, AnswersHost};
 
-    /// A controller over a drive that has done no act, with reasons or without.
-    pub fn new(alloc: Global, drive: Drive, explains: bool) -> Session
-        ensures hba { (o : Origin) → Agrees drive o [] → AgreesHba result.hba (over_new o) [] }
-        ensures kept { StartsTelling explains result.explainer drive }
+    /// A controller over a drive that has done no act, which serves a host in this way.
+    pub fn new(alloc: Global, drive: Drive, way: Way) -> Session
+        ensures hba { (o : Origin) → Agrees drive o []
+            → AgreesHba result.hba (over_new_by way.width o) [] }
+        ensures kept { StartsTelling way.explains result.explainer drive }
         ensures denials { result.denials.items ≡ [] }
     {
-        let explainer = first_explainer(alloc, &drive, explains);
+        let explainer = first_explainer(alloc, &drive, way.explains);
         Session {
             alloc,
-            hba: Hba::new(alloc, drive),
+            hba: Hba::with_addresses(alloc, drive, way.width),
             explainer,
             denials: Vec::new(alloc),
             text: Vec::new(alloc),

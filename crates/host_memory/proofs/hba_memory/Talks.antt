@@ -7,7 +7,7 @@ use Rattle.byteorder.specs.Endian.{little_bytes}
 use Rattle.fis.specs.declared.any.Fis.{Fis}
 use Rattle.fis.specs.Fis.{IsSpelling}
 use Rattle.slots.specs.Layout.{descriptor_size}
-use Rattle.host_memory.specs.Access.{Access, Asked, Laid, IsAccess, Accessed, OnlyReads}
+use Rattle.host_memory.specs.Access.{Access, Asked, Laid, Accessed, OnlyReads}
 use Rattle.host_memory.proofs.Accesses.{only_reads_more}
 use Rattle.host_memory.specs.declared.hba_memory.miss.Miss.{Miss}
 use Rattle.host_memory.specs.declared.hba_memory.miss.Miss.TheVariants as misses
@@ -33,10 +33,10 @@ pub posts_more : {M : Type 0} (does : M → Access → M → Type 0) (start now 
     (all : List Fis) (i : ℕ) (fis : Fis) (bytes : List ℕ) (place : ℕ) (is_done : Bool)
     → PostsOn does start now at all (drop i all) → i < length all → fis ≡ get_or all i fis
     → IsSpelling bytes fis → place ≡ at + offset_of fis → is_done ≡ true
-    → IsAccess does now (Laid place bytes is_done) next
+    → does now (Laid place bytes is_done) next
     → PostsOn does start next at all (drop (i + 1) all)
 posts_more does start now next at all i fis bytes place is_done h below e s p d a = λ rest end missed b q.
-    let a' : IsAccess does now (Laid (at + offset_of fis) bytes true) next = rw (← p, ← d) a in
+    let a' : does now (Laid (at + offset_of fis) bytes true) next = rw (← p, ← d) a in
     h (Laid (at + offset_of fis) bytes true ∷ rest) end missed (next, a', b)
     (rw (at_item all i fis below e) (bytes, true, rest, s, refl, q))
 
@@ -44,10 +44,10 @@ pub posts_stop : {M : Type 0} (does : M → Access → M → Type 0) (start now 
     (all : List Fis) (i : ℕ) (fis : Fis) (bytes : List ℕ) (place : ℕ) (is_done : Bool)
     → PostsOn does start now at all (drop i all) → i < length all → fis ≡ get_or all i fis
     → IsSpelling bytes fis → place ≡ at + offset_of fis → is_done ≡ false
-    → IsAccess does now (Laid place bytes is_done) next
+    → does now (Laid place bytes is_done) next
     → (talk : List Access) × Accessed does start talk next × Posts at all talk (Some misses.Fis)
 posts_stop does start now next at all i fis bytes place is_done h below e s p d a =
-    let a' : IsAccess does now (Laid (at + offset_of fis) bytes false) next = rw (← p, ← d) a in
+    let a' : does now (Laid (at + offset_of fis) bytes false) next = rw (← p, ← d) a in
     h (Laid (at + offset_of fis) bytes false ∷ []) next (Some misses.Fis) (next, a', refl)
     (rw (at_item all i fis below e) (bytes, false, [], s, refl, (refl, refl)))
 
@@ -67,12 +67,12 @@ not_equal n m h = grind arith
 -- PRDBC is written, or refused.
 pub counts_by : {M : Type 0} (does : M → Access → M → Type 0) (now next : M) (header n : ℕ)
     (bytes : List ℕ) (is_done told : Bool) → (n ≡ 0 → ⊥) → told ≡ is_done → bytes ≡ little_bytes 4 (n % 2 ^ 32)
-    → IsAccess does now (Laid (header + 4) bytes told) next
+    → does now (Laid (header + 4) bytes told) next
     → (talk : List Access) × Accessed does now talk next
     × Counts header n talk (missed_unless is_done misses.List)
 counts_by does now next header n bytes is_done told some d e a =
     let not_none : (n == 0) ≡ false = not_equal n 0 some in
-    let a' : IsAccess does now (Laid (header + 4) bytes is_done) next = rw (← d) a in
+    let a' : does now (Laid (header + 4) bytes is_done) next = rw (← d) a in
     let p : CountsIf false header n (Laid (header + 4) bytes is_done ∷ [])
     (missed_unless is_done misses.List) = (is_done, ap (λ xs. Laid (header + 4) xs is_done ∷ []) e, refl) in (
       Laid (header + 4) bytes is_done ∷ [],
@@ -127,8 +127,8 @@ pub gathers_more : {M : Type 0} (does : M → Access → M → Type 0) (start no
     → GathersOn does start now first all len bytes at n left told → n ≡ suc m → (left ≡ 0 → ⊥)
     → at' ≡ at + descriptor_size → after ≡ left - data_len entry
     → told' ≡ (told || processes entry (min left (data_len entry)))
-    → IsAccess does now (Asked at descriptor_size (Some entry)) middle
-    → IsAccess does middle (Asked (data_at entry) (min left (data_len entry)) (Some block)) next
+    → does now (Asked at descriptor_size (Some entry)) middle
+    → does middle (Asked (data_at entry) (min left (data_len entry)) (Some block)) next
     → GathersOn does start next first all len (bytes ++ block) at' m after told'
 gathers_more does start now middle next first all len bytes at zero m left after at' entry block told told' h one left_some t e u a b =
     absurd (omega arith)
@@ -227,7 +227,7 @@ gathers_short does start now first all len bytes at (suc k) left told h last lef
 pub gathers_no_entry : {M : Type 0} (does : M → Access → M → Type 0) (start now next : M)
     (first all len : ℕ) (bytes : List ℕ) (at n left : ℕ) (told : Bool)
     → GathersOn does start now first all len bytes at n left told → 0 < n → (left ≡ 0 → ⊥)
-    → IsAccess does now (Asked at descriptor_size None) next
+    → does now (Asked at descriptor_size None) next
     → (talk : List Access) × Accessed does start talk next
     × Gathers first all len talk (Err misses.Table) × Unit {0}
 gathers_no_entry does start now next first all len bytes at zero left told h more some a = absurd (omega arith)
@@ -241,8 +241,8 @@ gathers_no_entry does start now next first all len bytes at (suc k) left told h 
 pub gathers_no_block : {M : Type 0} (does : M → Access → M → Type 0) (start now middle next : M)
     (first all len : ℕ) (bytes : List ℕ) (at n left : ℕ) (entry : List ℕ) (told : Bool)
     → GathersOn does start now first all len bytes at n left told → 0 < n → (left ≡ 0 → ⊥)
-    → IsAccess does now (Asked at descriptor_size (Some entry)) middle
-    → IsAccess does middle (Asked (data_at entry) (min left (data_len entry)) None) next
+    → does now (Asked at descriptor_size (Some entry)) middle
+    → does middle (Asked (data_at entry) (min left (data_len entry)) None) next
     → (talk : List Access) × Accessed does start talk next
     × Gathers first all len talk (Err misses.Block) × Unit {0}
 gathers_no_block does start now middle next first all len bytes at zero left entry told h more some a b =
@@ -259,7 +259,7 @@ gathers_no_block does start now middle next first all len bytes at (suc k) left 
 
 -- One read more.
 pub read_more : {M : Type 0} (does : M → Access → M → Type 0) (start now next : M) (at n : ℕ)
-    (answer : Option (List ℕ)) → OnlyReads does start now → IsAccess does now (Asked at n answer) next
+    (answer : Option (List ℕ)) → OnlyReads does start now → does now (Asked at n answer) next
     → OnlyReads does start next
 read_more does start now next at n answer h a =
     only_reads_more does start now next h (Asked at n answer ∷ [], tt, (next, a, refl))
@@ -310,8 +310,8 @@ pub scatters_more : {M : Type 0} (does : M → Access → M → Type 0) (start n
     → moved'.len ≡ moved.len + length part
     → moved'.is_processed ≡ (moved.is_processed || processes entry (length part))
     → at' ≡ at + descriptor_size → after ≡ drop (data_len entry) left → part ≡ take (data_len entry) left
-    → IsAccess does now (Asked at descriptor_size (Some entry)) middle
-    → IsAccess does middle (Laid (data_at entry) part true) next
+    → does now (Asked at descriptor_size (Some entry)) middle
+    → does middle (Laid (data_at entry) part true) next
     → ScattersOn does start next first all bytes at' m after moved'
 scatters_more does start now middle next first all bytes at zero m at' left after entry part moved moved' h one some d u t e f a b =
     absurd (omega arith)
@@ -358,7 +358,7 @@ scatters_short does start now first all bytes at (suc k) left moved h last some 
 pub scatters_no_entry : {M : Type 0} (does : M → Access → M → Type 0) (start now next : M)
     (first all : ℕ) (bytes : List ℕ) (at n : ℕ) (left : List ℕ) (moved : Moved)
     → ScattersOn does start now first all bytes at n left moved → 0 < n → (length left == 0) ≡ false
-    → IsAccess does now (Asked at descriptor_size None) next
+    → does now (Asked at descriptor_size None) next
     → Scattered does start next first all bytes (Some misses.Table) moved
 scatters_no_entry does start now next first all bytes at zero left moved h more some a = absurd (omega arith)
 scatters_no_entry does start now next first all bytes at (suc k) left moved h more some a =
@@ -371,8 +371,8 @@ pub scatters_no_block : {M : Type 0} (does : M → Access → M → Type 0) (sta
     (first all : ℕ) (bytes : List ℕ) (at n : ℕ) (left entry part : List ℕ) (moved : Moved)
     → ScattersOn does start now first all bytes at n left moved → 0 < n → (length left == 0) ≡ false
     → part ≡ take (data_len entry) left
-    → IsAccess does now (Asked at descriptor_size (Some entry)) middle
-    → IsAccess does middle (Laid (data_at entry) part false) next
+    → does now (Asked at descriptor_size (Some entry)) middle
+    → does middle (Laid (data_at entry) part false) next
     → Scattered does start next first all bytes (Some misses.Block) moved
 scatters_no_block does start now middle next first all bytes at zero left entry part moved h more some f a b =
     absurd (omega arith)

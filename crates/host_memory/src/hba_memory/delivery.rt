@@ -8,24 +8,26 @@ ghost use Rattle.host_memory.specs.Memory.{tells_error, takes_data, data_taken, 
 
 use crate::hba_memory::miss::Miss;
 use crate::hba_memory::reading::{Header, Moved, data_at, data_len};
-use crate::{HostMemory, Source, read_array, write_at, write_source_at};
+use crate::{AddressWidth, HostMemory, Source, read_array, write_at, write_source_at};
 use byteorder::{ByteOrder, LittleEndian};
 use fis::Fis;
 use slots::fields::{DESCRIPTOR, received_offset};
 
 /// Where PRDBC stands in a command header (AHCI 1.3.1, 4.2.2).
-const BYTE_COUNT: u64 = 4;
+const BYTE_COUNT: u128 = 4;
 
 /// Lays data over the blocks that so many descriptors from an address on name, one after the other. A descriptor is read
 /// where bytes go to its block alone. Gives how they moved, and what was missed behind them.
 fn scatter<M: HostMemory, S: Source>(
     memory: &mut M,
-    at: u64,
+    width: AddressWidth,
+    at: u128,
     entries: u16,
     source: &S,
 ) -> (Moved, Option<Miss>)
-    requires { at < 2 ^ 33 }
-    ensures talk { (talk : List Access) × Accessed M.does memory.old talk memory.new
+    requires { at < 2 ^ 65 }
+    ensures talk { (talk : List Access)
+        × Accessed (IsAccess width M.does) memory.old talk memory.new
         × Scatters at entries (S.bytes source.now) talk result.1
         × (result.0 ≡ moved_by talk (written_by talk)) }
     ensures most { result.0.len ≤ length (S.bytes source.now) }
@@ -36,11 +38,11 @@ fn scatter<M: HostMemory, S: Source>(
         if moved.len == len {
             return (moved, None);
         }
-        let Some(entry) = read_array(memory, at + DESCRIPTOR as u64 * u64::from(k)) else {
+        let Some(entry) = read_array(memory, width, at + DESCRIPTOR as u128 * u128::from(k)) else {
             return (moved, Some(Miss::Table));
         };
         let end = moved.len + data_len(&entry).min(len - moved.len);
-        if !write_source_at(memory, data_at(&entry), source, moved.len, end) {
+        if !write_source_at(memory, width, data_at(&entry), source, moved.len, end) {
             return (moved, Some(Miss::Block));
         }
         moved = moved.with(&entry, end);
@@ -57,9 +59,14 @@ fn scatter<M: HostMemory, S: Source>(
 /// # Errors
 ///
 /// Where memory failed.
-fn count<M: HostMemory>(memory: &mut M, header: u64, moved: usize) -> Result<(), Miss>
-    requires { header < 2 ^ 40 }
-    ensures { (talk : List Access) × Accessed M.does memory.old talk memory.new
+fn count<M: HostMemory>(
+    memory: &mut M,
+    width: AddressWidth,
+    header: u128,
+    moved: usize,
+) -> Result<(), Miss>
+    requires { header < 2 ^ 65 }
+    ensures { (talk : List Access) × Accessed (IsAccess width M.does) memory.old talk memory.new
         × Counts header moved talk (result_err result) }
 {
     if moved == 0 {
@@ -67,7 +74,7 @@ fn count<M: HostMemory>(memory: &mut M, header: u64, moved: usize) -> Result<(),
     }
     let mut bytes = [0; 4];
     LittleEndian::write_u32(&mut bytes, (moved % 0x1_0000_0000) as u32);
-    if write_at(memory, header + BYTE_COUNT, &bytes) {
+    if write_at(memory, width, header + BYTE_COUNT, &bytes) {
         Ok(())
     } else {
         Err(Miss::List)
@@ -111,16 +118,16 @@ fn is_processed(fises: &[Fis], brought: Moved, laid: Moved) -> bool
 }
 
 /// Stores a FIS at an address; false where memory failed.
-fn store<M: HostMemory>(memory: &mut M, at: u64, fis: &Fis) -> bool
+fn store<M: HostMemory>(memory: &mut M, width: AddressWidth, at: u128, fis: &Fis) -> bool
     ensures { (bytes : List ℕ) × IsSpelling bytes fis.now
-        × IsAccess M.does memory.old (Laid at bytes result) memory.new }
+        × IsAccess width M.does memory.old (Laid at bytes result) memory.new }
 {
     match fis {
-        Fis::H2d(f) => write_at(memory, at, &f.to_bytes()),
-        Fis::D2h(f) => write_at(memory, at, &f.to_bytes()),
-        Fis::SetDeviceBits(f) => write_at(memory, at, &f.to_bytes()),
-        Fis::DmaSetup(f) => write_at(memory, at, &f.to_bytes()),
-        Fis::PioSetup(f) => write_at(memory, at, &f.to_bytes()),
+        Fis::H2d(f) => write_at(memory, width, at, &f.to_bytes()),
+        Fis::D2h(f) => write_at(memory, width, at, &f.to_bytes()),
+        Fis::SetDeviceBits(f) => write_at(memory, width, at, &f.to_bytes()),
+        Fis::DmaSetup(f) => write_at(memory, width, at, &f.to_bytes()),
+        Fis::PioSetup(f) => write_at(memory, width, at, &f.to_bytes()),
     }
 }
 
@@ -129,12 +136,18 @@ fn store<M: HostMemory>(memory: &mut M, at: u64, fis: &Fis) -> bool
 /// # Errors
 ///
 /// Where memory failed. FISes before it are stored.
-fn post<M: HostMemory>(memory: &mut M, at: u32, fises: &[Fis]) -> Result<(), Miss>
-    ensures { (talk : List Access) × Accessed M.does memory.old talk memory.new
+fn post<M: HostMemory>(
+    memory: &mut M,
+    width: AddressWidth,
+    at: u64,
+    fises: &[Fis],
+) -> Result<(), Miss>
+    ensures { (talk : List Access) × Accessed (IsAccess width M.does) memory.old talk memory.new
         × Posts at fises.now talk (result_err result) }
 {
     for fis in fises {
-        if !store(memory, u64::from(at) + received_offset(fis) as u64, fis) {
+        let place = u128::from(at) + received_offset(fis) as u128;
+        if !store(memory, width, place, fis) {
             return Err(Miss::Fis);
         }
     }
@@ -146,12 +159,17 @@ fn post<M: HostMemory>(memory: &mut M, at: u32, fises: &[Fis]) -> Result<(), Mis
 /// # Errors
 ///
 /// Where memory failed. FISes before it are stored.
-pub fn post_all<M: HostMemory>(memory: &mut M, to: Option<u32>, fises: &[Fis]) -> Result<(), Miss>
-    ensures { (talk : List Access) × Accessed M.does memory.old talk memory.new
+pub fn post_all<M: HostMemory>(
+    memory: &mut M,
+    width: AddressWidth,
+    to: Option<u64>,
+    fises: &[Fis],
+) -> Result<(), Miss>
+    ensures { (talk : List Access) × Accessed (IsAccess width M.does) memory.old talk memory.new
         × PostsTo to fises.now talk (result_err result) }
 {
     match to {
-        Some(at) => post(memory, at, fises),
+        Some(at) => post(memory, width, at, fises),
         None => Ok(()),
     }
 }
@@ -159,9 +177,9 @@ pub fn post_all<M: HostMemory>(memory: &mut M, to: Option<u32>, fises: &[Fis]) -
 /// Where a command's header stands, what it names, and where received FISes go.
 #[derive(Clone, Copy, Debug, PartialEq, Eq)]
 pub struct Place {
-    pub at: u64,
+    pub at: u128,
     pub header: Header,
-    pub to: Option<u32>,
+    pub to: Option<u64>,
 }
 
 /// How what an act gives arrived in the memory.
@@ -198,17 +216,18 @@ fn ending(missed: Option<Miss>) -> Option<Miss>
 /// Stores PRDBC, and then received FISes; tells what was missed.
 fn count_and_post<M: HostMemory>(
     memory: &mut M,
-    header: u64,
+    width: AddressWidth,
+    header: u128,
     moved: usize,
-    to: Option<u32>,
+    to: Option<u64>,
     fises: &[Fis],
 ) -> Option<Miss>
-    requires { header < 2 ^ 40 }
-    ensures { (talk : List Access) × Accessed M.does memory.old talk memory.new
+    requires { header < 2 ^ 65 }
+    ensures { (talk : List Access) × Accessed (IsAccess width M.does) memory.old talk memory.new
         × Then (Counts header moved) (PostsTo to fises.now) talk result }
 {
-    match count(memory, header, moved) {
-        Ok(()) => post_all(memory, to, fises).err(),
+    match count(memory, width, header, moved) {
+        Ok(()) => post_all(memory, width, to, fises).err(),
         Err(miss) => Some(miss),
     }
 }
@@ -216,22 +235,23 @@ fn count_and_post<M: HostMemory>(
 /// Stores PRDBC, and received FISes unless the data ended by what was missed; tells what was missed first.
 fn end<M: HostMemory>(
     memory: &mut M,
+    width: AddressWidth,
     ended: Option<Miss>,
-    header: u64,
+    header: u128,
     moved: usize,
-    to: Option<u32>,
+    to: Option<u64>,
     fises: &[Fis],
 ) -> Option<Miss>
-    requires { header < 2 ^ 40 }
-    ensures { (talk : List Access) × Accessed M.does memory.old talk memory.new
+    requires { header < 2 ^ 65 }
+    ensures { (talk : List Access) × Accessed (IsAccess width M.does) memory.old talk memory.new
         × EndsBy ended (Counts header moved) (PostsTo to fises.now) talk result }
 {
     match ended {
         Some(miss) => {
-            let _ = count(memory, header, moved);
+            let _ = count(memory, width, header, moved);
             Some(miss)
         }
-        None => count_and_post(memory, header, moved, to, fises),
+        None => count_and_post(memory, width, header, moved, to, fises),
     }
 }
 
@@ -239,26 +259,36 @@ fn end<M: HostMemory>(
 /// the bytes that moved, those that it took of what was brought among them, and its FISes.
 pub fn deliver<M: HostMemory, S: Source>(
     memory: &mut M,
+    width: AddressWidth,
     place: Place,
     brought: Moved,
     fises: &[Fis],
     source: &S,
 ) -> Arrival
-    requires near { place.at < 2 ^ 40 }
+    requires near { place.at < 2 ^ 65 }
     requires short { brought.len < 2 ^ 63 }
     requires few { length (S.bytes source.now) < 2 ^ 63 }
-    ensures { (talk : List Access) × Accessed M.does memory.old talk memory.new
+    ensures { (talk : List Access) × Accessed (IsAccess width M.does) memory.old talk memory.new
         × Delivers place brought fises.now (S.bytes source.now) talk result }
 {
     let (laid, lost) = scatter(
         memory,
+        width,
         place.header.descriptors(),
         place.header.entries,
         source,
     );
     let is_processed = is_processed(fises, brought, laid);
     let moved = data_taken(fises, brought.len) + laid.len;
-    let missed = end(memory, ending(lost), place.at, moved, place.to, fises);
+    let missed = end(
+        memory,
+        width,
+        ending(lost),
+        place.at,
+        moved,
+        place.to,
+        fises,
+    );
     Arrival {
         is_short: runs_short(lost),
         is_processed,

@@ -104,7 +104,7 @@ impl HbaDesk {
     }
 
     /// The controller does the work of this number, modulo how many there are, over the bytes that stand at a base address.
-    pub fn turn(&mut self, choice: usize, base: u32, bytes: &mut [u8]) -> Worked
+    pub fn turn(&mut self, choice: usize, base: u64, bytes: &mut [u8]) -> Worked
         ensures { TurnsDesk self.old self.new choice (StandsSo base) bytes.old bytes.new result }
     {
         let outcome = turn_over(&mut self.hba, choice, base, bytes);
@@ -118,7 +118,7 @@ impl HbaDesk {
     pub fn turn_within(
         &mut self,
         choice: usize,
-        base: u32,
+        base: u64,
         bytes: &mut [u8],
         regions: &[Region],
     ) -> Worked

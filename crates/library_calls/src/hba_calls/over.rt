@@ -29,7 +29,7 @@ fn turn_window(
 pub(crate) fn turn_over(
     hba: &mut Hba,
     choice: usize,
-    base: u32,
+    base: u64,
     bytes: &mut [u8],
 ) -> Result<Option<Turned>, AllocError>
     ensures { TurnsOver choice (StandsSo base) hba.old bytes.old hba.new bytes.new result }
@@ -58,7 +58,7 @@ fn turn_regions(
 pub(crate) fn turn_within(
     hba: &mut Hba,
     choice: usize,
-    base: u32,
+    base: u64,
     bytes: &mut [u8],
     regions: &[Region],
 ) -> Result<Option<Turned>, AllocError>

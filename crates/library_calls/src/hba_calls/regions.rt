@@ -34,7 +34,7 @@ fn lies_in_any(regions: &[Region], at: u64, len: usize) -> bool
 /// one of them; any other is refused.
 #[derive(Drop)]
 pub struct Regions<'a, 'b> {
-    pub base: u32,
+    pub base: u64,
     pub bytes: &'a mut [u8],
     pub regions: &'b [Region],
 }
@@ -43,7 +43,7 @@ impl<'a, 'b> Regions<'a, 'b> {
     ghost use Rattle.std.specs.Prelude.{◌≡◌};
 
     /// Bytes that stand at a base address.
-    pub fn new(base: u32, bytes: &'a mut [u8], regions: &'b [Region]) -> Regions<'a, 'b>
+    pub fn new(base: u64, bytes: &'a mut [u8], regions: &'b [Region]) -> Regions<'a, 'b>
         ensures same_reference { result.bytes.ghost_name ≡ bytes.entry.ghost_name }
         ensures base { result.base ≡ base }
         ensures bytes { result.bytes.now ≡ bytes.old }
@@ -59,12 +59,12 @@ impl<'a, 'b> Regions<'a, 'b> {
 
 impl Regions<'_, '_> {
     ghost use Rattle.std.specs.Prelude.{◌≡◌, ◌≤◌, ◌+◌, length};
-    ghost use Rattle.host_memory.specs.Access.{Asked, read_answer};
+    ghost use Rattle.host_memory.specs.Access.{Asked, read_answer, memory_end};
     ghost use Rattle.library_calls.specs.Regions.{StandsWithin};
 
     /// Fills with the bytes at an address, where they are memory.
     fn copy(&self, at: u64, into: &mut [u8]) -> bool
-        requires { at + length into.old ≤ 0x100000000 }
+        requires { at + length into.old ≤ memory_end }
         ensures { StandsWithin self.now.regions.now self.now.base self.now.bytes.now
             (Asked at (length into.old) (read_answer result into.new)) self.now.bytes.now }
     {

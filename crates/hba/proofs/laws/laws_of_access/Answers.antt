@@ -1,5 +1,5 @@
 -- Bits by bits.
-use Rattle.hba.proofs.AccessRows.{generic_law, place_law, command_law, state_law, follows_law, start_law}
+use Rattle.hba.proofs.AccessRows.{generic_law, place_law, upper_law, command_law, state_law, follows_law, start_law}
 use Rattle.hba.proofs.Reaches.{others_law}
 use Rattle.hba.proofs.OwnBits.{own_law}
 use Rattle.hba.proofs.laws.laws_of_access.Goals as goal
@@ -9,6 +9,9 @@ returns-clause-generic c = generic_law
 
 pub returns-clause-places : goal.returns-clause-places
 returns-clause-places c = place_law
+
+pub returns-clause-upper : goal.returns-clause-upper
+returns-clause-upper c = upper_law
 
 pub returns-clause-command : goal.returns-clause-command
 returns-clause-command c = command_law

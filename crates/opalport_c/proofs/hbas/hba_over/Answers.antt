@@ -8,9 +8,9 @@ pub returns-clause-made : goal.returns-clause-made
 returns-clause-made c =
     IfOk-weaker c.boxed.result _ _
     (λ object is. (
-      c.new-2.result,
+      c.new.result,
       is,
-      c.new-2.ensures.denied,
-      subst (λ (h : State). HbaOver c.args.drive h) (sym c.new-2.ensures.hba) c.new.ensures,
+      c.new.ensures.denied,
+      subst (λ (h : State). HbaOver c.args.width c.args.drive h) (sym c.new.ensures.hba) c.with_addresses.ensures,
     ))
     c.boxed.ensures.value

@@ -6,5 +6,5 @@ returns-clause-loaded c =
       desk,
       is,
       denied,
-      λ o saved. over o (c.in_ok-drive.ensures.loaded o.origin o.earlier saved),
+      λ o width saved. over o width (c.in_ok-drive.ensures.loaded o.origin o.earlier saved),
     )

@@ -13,11 +13,12 @@ use Rattle.hba.specs.Blocks.{block_size, of_last_block}
 use Rattle.hba.specs.Engine.{Executes, IsEffect}
 use Rattle.hba.proofs.Shown.{told_effect}
 use Rattle.hba.proofs.Turns.{executes_as, told_as, serves_missed, serves_done, adds_fetched, shown_fetched, brought_reads, turn_kept}
+use Rattle.host_memory.specs.Access.{IsAccess}
 use Rattle.hba.proofs.hba.Hba.execute_in.Goals as goal
 
 pub returns-in-Err-clause-done : goal.returns-in-Err-clause-done
 returns-in-Err-clause-done g c =
-    let brought = rw (c.descriptors-at.ensures.value, c.requires.long, c.in-Err.is) at c.bring.ensures.brings in
+    let brought = rw (c.width-width.ensures, c.descriptors-at.ensures.value, c.requires.long, c.in-Err.is) at c.bring.ensures.brings in
     told_as g.M.HostMemory.does (λ o a. Executes o a c.args.place c.args.tag c.args.fis.now) c.args.self.now c.args.memory.now c.miss.new.self
     c.bring.new.memory c.miss.result (dones.Fault (fault_of c.in-Err.miss)) None c.miss.ensures.told
     (executes_as g.M.HostMemory.does c.args.place c.args.tag c.args.fis.now c.args.self.now c.args.memory.now c.miss.new.self c.bring.new.memory
@@ -29,14 +30,14 @@ returns-in-Err-clause-done g c =
 
 pub returns-in_err-lent-clause-kept : goal.returns-in_err-lent-clause-kept
 returns-in_err-lent-clause-kept g c =
-    let brought = rw (c.descriptors-at.ensures.value, c.requires.long, c.in-Ok.is) at c.bring.ensures.brings in
+    let brought = rw (c.width-width.ensures, c.descriptors-at.ensures.value, c.requires.long, c.in-Ok.is) at c.bring.ensures.brings in
     on_err c.from_residual.result _
-    (brought_reads g.M.HostMemory.does c.args.place (payload_of c.args.self.now.drive.tper.store.config c.args.fis.now) c.args.memory.now c.bring.new.memory (Ok c.bring.new.room.items)
+    (brought_reads (IsAccess c.args.self.now.registers.width g.M.HostMemory.does) c.args.place (payload_of c.args.self.now.drive.tper.store.config c.args.fis.now) c.args.memory.now c.bring.new.memory (Ok c.bring.new.room.items)
     (brought.0, brought.1, brought.2))
 
 pub returns-clause-done : goal.returns-clause-done
 returns-clause-done g c =
-    let brought = rw (c.descriptors-at.ensures.value, c.requires.long, c.in-Ok.is, ← c.as_slice-payload.ensures.value) at c.bring.ensures.brings in
+    let brought = rw (c.width-width.ensures, c.descriptors-at.ensures.value, c.requires.long, c.in-Ok.is, ← c.as_slice-payload.ensures.value) at c.bring.ensures.brings in
     let moved : length c.as_slice-payload.result.now + c.len.result ≡ length c.as_slice-payload.result.now + length c.gift-gift.result.given = omega arith in
     let told : c.as_slice-fises.result.now ≡ map (of_last_block ((length c.as_slice-payload.result.now + length c.gift-gift.result.given) / block_size)) (fises_in c.take.new.answer) =
     rw (c.as_slice-fises.ensures.value, ← c.fises.ensures, ← moved) c.by_blocks-told.ensures in
@@ -54,7 +55,7 @@ returns-clause-done g c =
     c.as_slice-payload.result.now c.as_slice-fises.result.now c.gift-gift.result.given c.in-Ok.brought c.deliver-delivered.result
     c.show-done.result _
     brought
-    c.deliver-delivered.ensures
+    (rw c.width-width.ensures at c.deliver-delivered.ensures)
     (ap (λ (d : Done). Some d) (sym c.show-done.ensures.told))
     gives
     (adds_fetched c.args.self.now c.take.new.self c.show-done.new.self c.args.tag c.args.fis.now c.as_slice-payload.result.now

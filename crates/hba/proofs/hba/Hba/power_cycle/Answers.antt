@@ -1,4 +1,7 @@
 -- The drive is that of the reset, which is counted.
+use Rattle.std.proofs.Common.{ap, ◌∙◌}
+use Rattle.hba.specs.declared.registers.Registers.{Registers}
+use Rattle.hba.specs.Registers.{reset_registers}
 use Rattle.sp_cells.specs.Resets.{power_cycle}
 use Rattle.history.specs.History.{Reset}
 use Rattle.hba.specs.History.{all_acts, acts_of}
@@ -12,5 +15,7 @@ returns c = λ o list a.
         drive = c.reset.ensures.agrees o.origin (all_acts o (acts_of o list)) b.acted.drive;
         count = c.one_more-self-inside.ensures (acts_of o list) (Reset power_cycle) b.acted.count;
       };
-      registers = c.new-self-inside.ensures;
+      registers =
+          c.new-self-inside.ensures
+          ∙ ap reset_registers (c.width.ensures ∙ ap (λ (r : Registers). r.width) b.registers);
     }

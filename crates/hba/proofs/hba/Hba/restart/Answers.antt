@@ -11,4 +11,4 @@ pub returns : goal.returns
 returns g c =
     restarts g.M.HostMemory.does c.args.self.now c.args.memory.now c.leave_reset.new.self c.post_all.new.memory c.args.tag c.received_at-to.result
     (c.signature_fis.result ∷ []) (result_err c.post_all.result) (ap (λ (f : Fis). let fs : List Fis = f ∷ [] in fs) c.signature_fis.ensures)
-    (c.received_at-to.ensures ∙ ap (λ (s : State). fises_at s.registers) c.self.view_is) c.post_all.ensures c.leave_reset.ensures
+    (c.received_at-to.ensures ∙ ap (λ (s : State). fises_at s.registers) c.self.view_is) (rw c.width.ensures at c.post_all.ensures) c.leave_reset.ensures

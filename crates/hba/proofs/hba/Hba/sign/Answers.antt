@@ -9,4 +9,4 @@ pub returns : goal.returns
 returns g c =
     signs g.M.HostMemory.does c.args.self.now c.args.memory.now c.note_signature.new.self c.post_all.new.memory c.received_at-to.result
     (c.signature_fis.result ∷ []) (result_err c.post_all.result) (ap (λ (f : Fis). let fs : List Fis = f ∷ [] in fs) c.signature_fis.ensures)
-    c.received_at-to.ensures c.post_all.ensures c.note_signature.ensures
+    c.received_at-to.ensures (rw c.width.ensures at c.post_all.ensures) c.note_signature.ensures

@@ -1,5 +1,5 @@
 use Rattle.std.proofs.Common.{rules, ap, []}
-use Rattle.hba.specs.History.{over_new}
+use Rattle.hba.specs.History.{over_new_by}
 use Rattle.hba_program.specs.Steps.{stand}
 use Rattle.hba_program.proofs.hba_tool.serving.serve.Goals as goal
 
@@ -21,5 +21,5 @@ returns-clause-served g c = record {
     does = c.in_ok-status.ensures.done.does;
     written = search rules;
   };
-  shows = λ o agrees. c.in_ok-status.ensures.done.shows (over_new o) [] (c.new-session.ensures.hba o agrees);
+  shows = λ o agrees. c.in_ok-status.ensures.done.shows (over_new_by c.args.way.width o) [] (c.new-session.ensures.hba o agrees);
 }

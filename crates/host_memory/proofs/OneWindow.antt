@@ -2,7 +2,7 @@
 use Rattle.std.proofs.Common.{◌≡◌, ℕ, ◌-◌, Bool, true, false, List, [], ◌∷◌, length, refl, ap, sym, ◌∙◌}
 use Rattle.std.specs.Prelude.{nat_le, if◌then◌else◌}
 use Rattle.host_memory.specs.declared.window.Window.{Window}
-use Rattle.host_memory.specs.Access.{Access, Asked, Laid, IsAccessIf, AreReads, access_end, memory_end}
+use Rattle.host_memory.specs.Access.{Access, Asked, Laid, IsAccessIf, AreReads, access_end, address_end}
 use Rattle.host_memory.specs.Window.{is_held, overlaid}
 use Rattle.host_memory.specs.WindowLaws.{WindowDoes, all_written, WrittenLaw, ReadLaw}
 
@@ -34,10 +34,10 @@ then_written base (Asked at n answer) later bytes = refl
 then_written base (Laid at others is_done) later bytes = refl
 
 pub written_law : WrittenLaw
-written_law old new [] h = ap (λ (w : Window). w.bytes.now) h
-written_law old new (access ∷ later) h =
-    let s = one_step (nat_le (access_end access) memory_end) old h.0 access h.1 in
-    written_law h.0 new later h.2
+written_law width old new [] h = ap (λ (w : Window). w.bytes.now) h
+written_law width old new (access ∷ later) h =
+    let s = one_step (nat_le (access_end access) (address_end width)) old h.0 access h.1 in
+    written_law width h.0 new later h.2
     ∙ ap (λ (b : ℕ). all_written b later h.0.bytes.now) s.0
     ∙ ap (λ (xs : List ℕ). all_written old.base later xs) s.1
     ∙ then_written old.base access later old.bytes.now
@@ -49,5 +49,5 @@ reads_leave base (Asked at n answer ∷ later) bytes h = reads_leave base later 
 reads_leave base (Laid at others is_done ∷ later) bytes h = absurd h
 
 pub read_law : ReadLaw
-read_law old new talk reads h =
-    written_law old new talk h ∙ reads_leave old.base talk old.bytes.now reads
+read_law width old new talk reads h =
+    written_law width old new talk h ∙ reads_leave old.base talk old.bytes.now reads
