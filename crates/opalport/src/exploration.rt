@@ -36,7 +36,7 @@ fn explore_share<R: Read + Drop, W: Write, E: Write>(
 ) -> Result<u8, RunError>
     ensures most { IfOk result (λ status. status ≤ 2) }
     ensures ends { IfOk result (λ status. ExploresShare options.now plan.now
-        (option_map (λ s. s.now) part) (R.remaining input) status
+        (option_map (λ s. s.now) part.entry) (R.remaining input) status
         (W.contents output.old) (W.contents output.new)) }
 {
     match part {
